@@ -1,0 +1,4 @@
+pub mod Refusals
+pub mod Range
+pub mod Coding
+pub mod Wanted
