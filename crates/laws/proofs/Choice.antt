@@ -7,6 +7,11 @@ pub chosen : {A X : Type 0} (t : Bool) (a b : A) {d : A} → (if t then a else b
 chosen true a b e f g = f refl e
 chosen false a b e f g = g refl e
 
+-- a test comes out one way or the other
+pub tested : {X : Type 0} (t : Bool) → (t ≡ true → X) → (t ≡ false → X) → X
+tested true f g = f refl
+tested false f g = g refl
+
 -- both of two tests hold
 pub both : {a b : Bool} → a ≡ true → b ≡ true → (a && b) ≡ true
 both p q = rw (p, q)
@@ -23,3 +28,11 @@ second false false e = e
 pub only-first : (a b : Bool) → b ≡ true → (a && b) ≡ a
 only-first true b e = e
 only-first false b e = refl
+
+pub parted : {X : Type 0} (a b : Bool) → (a && b) ≡ true → (a ≡ true → b ≡ true → X) → X
+parted a b e k = k (first a b e) (second a b e)
+
+-- what holds of what either side gives holds of the choice
+pub either-way : {A : Type 0} (P : A → Type 0) (t : Bool) {a b : A} → (t ≡ true → P a) → (t ≡ false → P b) → P (if t then a else b)
+either-way P true f g = f refl
+either-way P false f g = g refl

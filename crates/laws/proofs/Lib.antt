@@ -1,5 +1,9 @@
 pub mod Absurd
 pub mod Choice
+pub mod Every
+pub mod Elements
 pub mod Integers
 pub mod Words
 pub mod Floats
+pub mod Arms
+pub mod Fuel

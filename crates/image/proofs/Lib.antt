@@ -1,0 +1,7 @@
+pub mod Places
+pub mod Steps
+pub mod Fuel
+pub mod Marks
+pub mod Ways
+pub mod Promise
+pub mod Worked

@@ -1,0 +1,82 @@
+// One record of an image, at a place.
+use kinds::Instruction;
+use kinds::Meaning;
+use kinds::Record;
+use value::Value;
+ghost use mathlib.Core.Path.{_≡_};
+ghost use Prim.Native.Nat.{_+_};
+ghost use Rattle.image.specs.Records.{stepAt, headAt, fetchedAt};
+
+// What stands at a place of the code: nothing, no whole instruction, or one, with the place behind it.
+pub enum Step {
+    Ended,
+    Bad,
+    Next(Instruction, usize),
+}
+
+// The same before the code: nothing, no good record, or one, with the place behind it.
+pub enum Head {
+    Ended,
+    Bad,
+    Slots(u8, usize),
+    Input(Value, usize),
+    Code(usize),
+}
+
+// The instruction at a position of the code, with the position behind it.
+pub enum Fetched {
+    Is(Instruction, usize),
+    Nothing,
+}
+
+pub fn step_at(image: &[u8], at: usize) -> Step
+    ensures { λ r. ⌜ r ≡ stepAt (now (image .entry)) at ⌝ }
+{
+    if image.len() <= at {
+        return Step::Ended;
+    }
+    let kind = image[at];
+    let size = kinds::instruction_size(kind);
+    if image.len() - at <= size {
+        return Step::Bad;
+    }
+    let body = at + 1;
+    let behind = body + size;
+    match kinds::instruction_meant(kind, &image[body..behind]) {
+        Meaning::Is(i) => Step::Next(i, behind),
+        Meaning::Broken => Step::Bad,
+    }
+}
+
+pub fn fetch(image: &[u8], code: u32, position: u16) -> Fetched
+    ensures { λ r. ⌜ r ≡ fetchedAt (now (image .entry)) code position ⌝ }
+{
+    let start = code as usize;
+    let at = start + (position as usize);
+    match step_at(image, at) {
+        Step::Ended => Fetched::Nothing,
+        Step::Bad => Fetched::Nothing,
+        Step::Next(i, behind) => Fetched::Is(i, behind - start),
+    }
+}
+
+pub fn head_at(image: &[u8], at: usize) -> Head
+    ensures { λ r. ⌜ r ≡ headAt (now (image .entry)) at ⌝ }
+{
+    if image.len() <= at {
+        return Head::Ended;
+    }
+    let kind = image[at];
+    let length = kinds::record_size(kind);
+    if image.len() - at <= length {
+        return Head::Bad;
+    }
+    let body = at + 1;
+    let behind = body + length;
+    match kinds::record_meant(kind, &image[body..behind]) {
+        Record::Slots(r) => Head::Slots(r, behind),
+        Record::Input(v) => Head::Input(v, behind),
+        Record::Code => Head::Code(behind),
+        Record::Wrong => Head::Bad,
+    }
+}

@@ -1,0 +1,4 @@
+pub mod Bytes
+pub mod Table
+pub mod Flows
+pub mod Operands

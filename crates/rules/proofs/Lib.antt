@@ -1,0 +1,9 @@
+pub mod Worked
+pub mod Outcomes
+pub mod Telling
+pub mod Steps
+pub mod Isolation
+pub mod Lawful
+pub mod Refusal
+pub mod Figures
+pub mod Witnesses

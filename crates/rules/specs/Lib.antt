@@ -1,0 +1,10 @@
+pub mod Tests
+pub mod Decide
+pub mod Claim
+pub mod Turn
+pub mod Calls
+pub mod Sound
+pub mod Sheets
+pub mod Further
+pub mod History
+pub mod Events
