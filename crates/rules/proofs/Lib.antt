@@ -3,7 +3,9 @@ pub mod Outcomes
 pub mod Telling
 pub mod Steps
 pub mod Isolation
+pub mod Numbered
 pub mod Lawful
 pub mod Refusal
+pub mod Looks
 pub mod Figures
 pub mod Witnesses

@@ -8,7 +8,7 @@ use Rattle.laws.specs.Choice.{if_then_else_}
 use Rattle.laws.proofs.Absurd.{clash}
 use Rattle.rules.specs.declared.Effect.{Effect}
 use Rattle.rules.specs.declared.Effect.the-variants.{Goes, Ends, Waits, Fills, Empties, Makes, Spawns, Refuses}
-use Rattle.rules.specs.Claim.{Claim, perform}
+use Rattle.rules.specs.Claim.{Claim}
 use Rattle.rules.specs.Turn.{Turned, turn, ran, answerOf}
 use Rattle.rules.specs.Calls.{Loading, load, loaded, clear, bare, Event, picks, loads, asks, clears, hear}
 use Rattle.rules.specs.Events.{replied, changes, counts}
@@ -16,17 +16,6 @@ use Rattle.rules.proofs.Outcomes as Outcomes
 use Rattle.rules.proofs.Outcomes.{Turns, idles, runs, Loads, rejects, accepts, Clears, leaves, empties}
 
 -- ---- a turn: "0, 1, 2, 3" are one step, "5, 6, 7: nothing changed"
-
-perform-steps : (e : Effect) (i : ℕ) (c : Claim) → perform e i c .steps ≡ suc (c .steps)
-unfolding perform
-perform-steps (Goes t) i c = refl
-perform-steps Ends i c = refl
-perform-steps (Waits l t) i c = refl
-perform-steps (Fills k l v t) i c = refl
-perform-steps (Empties l t) i c = refl
-perform-steps (Makes k n t) i c = refl
-perform-steps (Spawns new t) i c = refl
-perform-steps (Refuses n) i c = refl
 
 answers-ran : (e : Effect) → leb (answerOf e) 3 ≡ true
 unfolding answerOf
@@ -43,7 +32,7 @@ module _ (c : Claim) where
   turns-steps : {p : ℕ} {t : Turned} → Turns c p t → t .claim .steps ≡ (if leb (t .answer) 3 then suc (c .steps) else c .steps)
   unfolding ran
   turns-steps (idles n) = rw n
-  turns-steps (runs r s l) = rw (answers-ran _) (perform-steps _ _ c)
+  turns-steps (runs r s l) = rw (answers-ran _) (Outcomes.performed _ _ c .steps)
 
   turns-still : {p : ℕ} {t : Turned} → Turns c p t → leb (t .answer) 3 ≡ false → t .claim ≡ c
   unfolding ran
@@ -61,11 +50,11 @@ module _ (c : Claim) where
   loads-steps : {image : List ℕ} {t : Loading} → Loads c image t → t .claim .steps ≡ (if eqb (t .number) 0 then 0 else c .steps)
   unfolding loaded
   loads-steps (rejects n) = rw n
-  loads-steps (accepts r n e) = refl
+  loads-steps (accepts e v w) = refl
 
   loads-still : {image : List ℕ} {t : Loading} → Loads c image t → eqb (t .number) 0 ≡ false → t .claim ≡ c
   loads-still (rejects n) f = refl
-  loads-still (accepts r n e) f = clash (cc)
+  loads-still (accepts e v w) f = clash (cc)
 
   pub load-steps : (image : List ℕ) → load c image .claim .steps ≡ (if eqb (load c image .number) 0 then 0 else c .steps)
   load-steps image = loads-steps (Outcomes.loads c image)

@@ -8,9 +8,7 @@ use lib.Seq.{getD-set-same, getD-set-other}
 use lib.Dec.{ltb}
 use borrow.Author.Tests.{lt-ltb}
 use Rattle.laws.proofs.Choice.{either-way}
-use Rattle.rules.specs.declared.Effect.{Effect}
-use Rattle.rules.specs.declared.Effect.the-variants.{Goes, Ends, Waits, Fills, Empties, Makes, Spawns, Refuses}
-use Rattle.rules.specs.Claim.{Claim, perform}
+use Rattle.rules.specs.Claim.{Claim}
 use Rattle.rules.specs.Turn.{Turned, ran}
 use Rattle.rules.specs.Calls.{Machine, claimAt, Message, message, Told, tell, Event, picks, loads, asks, clears, hear, Loading, loaded}
 use Rattle.rules.proofs.Outcomes as Outcomes
@@ -40,27 +38,16 @@ module _ (m : Machine) (k : ℕ) (e : Event) (h : k < length m) where
 
 -- ---- a seat keeps its shares and its region
 
-pub perform-seat : (e : Effect) (i : ℕ) (c : Claim) → perform e i c .seat ≡ c .seat
-unfolding perform
-perform-seat (Goes t) i c = refl
-perform-seat Ends i c = refl
-perform-seat (Waits l t) i c = refl
-perform-seat (Fills k l v t) i c = refl
-perform-seat (Empties l t) i c = refl
-perform-seat (Makes k n t) i c = refl
-perform-seat (Spawns new t) i c = refl
-perform-seat (Refuses n) i c = refl
-
 module _ (c : Claim) where
   turns-seat : {p : ℕ} {t : Turned} → Turns c p t → t .claim .seat ≡ c .seat
   unfolding ran
   turns-seat (idles n) = refl
-  turns-seat (runs r s l) = perform-seat _ _ c
+  turns-seat (runs r s l) = Outcomes.performed _ _ c .seat
 
   loads-seat : {image : List ℕ} {t : Loading} → Loads c image t → t .claim .seat ≡ c .seat
   unfolding loaded
   loads-seat (rejects n) = refl
-  loads-seat (accepts r n e) = refl
+  loads-seat (accepts e v w) = refl
 
   clears-seat : {t : Turned} → Clears c t → t .claim .seat ≡ c .seat
   clears-seat leaves = refl

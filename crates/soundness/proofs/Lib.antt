@@ -1,0 +1,9 @@
+pub mod Tests
+pub mod Cells
+pub mod Rows
+pub mod Claims
+pub mod Decides
+pub mod Effects
+pub mod Turns
+pub mod Loads
+pub mod Machines

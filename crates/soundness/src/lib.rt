@@ -1,0 +1,1 @@
+// No code: sound machines stay sound, proved in proofs/.
