@@ -6,7 +6,7 @@ ghost use mathlib.Core.Path.{_≡_};
 ghost use Prim.Native.Nat.{suc, _≤_};
 ghost use lib.ListN.{length};
 ghost use Rattle.kinds.specs.Flows.{targets};
-ghost use Rattle.image.specs.Reading.{start, allStart, astray};
+ghost use Rattle.image.specs.Reading.{start, astray};
 ghost use Rattle.image.specs.Marks.{marks, marked, allMarked};
 
 // Where an image is at fault.
