@@ -7,3 +7,4 @@ pub mod Words
 pub mod Floats
 pub mod Arms
 pub mod Fuel
+pub mod Lists

@@ -1,0 +1,9 @@
+pub mod Spread
+pub mod Fitting
+pub mod Cells
+pub mod Heads
+pub mod Search
+pub mod Rows
+pub mod Pairs
+pub mod Back
+pub mod Fits

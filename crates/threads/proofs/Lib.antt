@@ -1,0 +1,4 @@
+pub mod Search
+pub mod Shifts
+pub mod Wakes
+pub mod Effects
