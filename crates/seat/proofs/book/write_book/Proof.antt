@@ -1,0 +1,39 @@
+-- `seat::book::write_book` meets its contract, number by number. Assumes nothing.
+use borrow.Author.Needs.{needs}
+use Rattle.seat.specs.Book.{bookWith}
+use Rattle.seat.proofs.book.write_book.Statement.{statement}
+use Rattle.seat.proofs.book.write_book.Tie as tie
+
+put32-requires : tie.Need-put32-requires
+put32-requires c κs = search needs
+
+put32-requires-2 : tie.Need-put32-requires-2
+put32-requires-2 c κs = search needs
+
+put32-requires-3 : tie.Need-put32-requires-3
+put32-requires-3 c κs = search needs
+
+put32-requires-4 : tie.Need-put32-requires-4
+put32-requires-4 c κs = search needs
+
+put32-requires-5 : tie.Need-put32-requires-5
+put32-requires-5 c κs = search needs
+
+same-length : tie.Need-same-length
+same-length c = search needs
+
+returns : tie.Need-returns
+unfolding bookWith
+returns c = rw (c .before .before .put325 .ensures, c .before .before .before .before .before .before .put324 .ensures, c .before .before .before .before .before .before .before .before .before .before .put323 .ensures, c .before .before .before .before .before .before .before .before .before .before .before .before .before .before .put322 .ensures, c .before .before .before .before .before .before .before .before .before .before .before .before .before .before .before .before .before .before .put32 .ensures)
+
+pub write-book-spec : {M : Type 1} → statement M
+write-book-spec =
+    tie.close
+    (tie.spec
+    put32-requires
+    put32-requires-2
+    put32-requires-3
+    put32-requires-4
+    put32-requires-5
+    same-length
+    returns)

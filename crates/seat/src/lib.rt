@@ -1,0 +1,3 @@
+// One seat over its own parts of the lent buffers.
+pub mod book;
+pub mod turn;
