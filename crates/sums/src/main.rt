@@ -101,6 +101,9 @@ fn integers() {
         is_integer(whole(Operation::Sub, -1, LEAST), GREATEST),
     );
     line(b"5 - 7", is_integer(whole(Operation::Sub, 5, 7), -2));
+}
+
+fn products() {
     line(
         b"least * -1",
         is_refused(whole(Operation::Mul, LEAST, -1), 9),
@@ -227,6 +230,9 @@ fn kinds() {
             4,
         ),
     );
+}
+
+fn offsets() {
     line(
         b"65535 offset 0",
         is_place(numbers::integers::offset(65535, 0), 65535),
@@ -248,7 +254,9 @@ fn kinds() {
 
 fn main() {
     integers();
+    products();
     quotients();
     reals();
     kinds();
+    offsets();
 }
