@@ -1,6 +1,6 @@
 -- `threads::head_of` meets its contract: the head of a thread has its accumulator's tag. Assumes nothing.
-use borrow.Author.Needs.{needs}
 use mathlib.Core.Path.{_∙_, ap}
+use borrow.Author.Needs.{needs}
 use Rattle.value.specs.declared.coding.Coded.{Coded}
 use Rattle.value.specs.Coding.{encoded}
 use Rattle.threads.specs.Heads.{packed, headOf}

@@ -48,9 +48,9 @@ same-length-2 c = search needs
 
 returns-3 : tie.Need-returns-3
 returns-3 c =
-    let w = c .before .before .before .before in
-    let t = w .before .before .before .before in
-    all-woken _ _ _ _ (t .before .if1 .left) (t .if2 .left) (w .before .wide .ensures) (w .wake .ensures)
+    let call = c .before .before .before .before in
+    let tests = call .before .before .before .before in
+    all-woken _ _ _ _ (tests .before .if1 .left) (tests .if2 .left) (call .before .wide .ensures) (call .wake .ensures)
 
 pub wake-first-spec : {M : Type 1} → statement M
 wake-first-spec =

@@ -1,6 +1,6 @@
 -- `threads::word_of` meets its contract: the word of a value's code. Assumes nothing.
-use borrow.Author.Needs.{needs}
 use mathlib.Core.Path.{ap}
+use borrow.Author.Needs.{needs}
 use Rattle.value.specs.declared.coding.Coded.{Coded}
 use Rattle.value.specs.Coding.{encoded}
 use Rattle.threads.proofs.word_of.Statement.{statement}
