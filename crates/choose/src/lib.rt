@@ -138,7 +138,7 @@ fn store_at(tags: &[u16], words: &[u64], at: Standing, kind: Kind, s: u8, t: u8)
     }
 }
 
-// IFETCH, GET and MFETCH, by what the cell at l holds.
+// IFETCH, GET and MFETCH, by what the cell at l holds, whatever else the thread may see.
 fn fetch_from(kind: Kind, l: usize, at: Standing, h: Held) -> Effect
     ensures { λ r. ⌜ ((see : View) → r ≡ ifFull (gives (at .after) see (at .thread) kind l) (Waits l (again (at .after) see (at .thread))) h) ⌝ }
 {
