@@ -9,3 +9,4 @@ pub mod Refusal
 pub mod Looks
 pub mod Figures
 pub mod Witnesses
+pub mod Judgements

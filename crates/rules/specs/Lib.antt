@@ -6,5 +6,6 @@ pub mod Calls
 pub mod Sound
 pub mod Sheets
 pub mod Further
+pub mod Unsound
 pub mod History
 pub mod Events
