@@ -1,16 +1,7 @@
 // Small images, worked out by hand from document 01, read by the code.
 use image::reader;
 use image::reader::Verdict;
-use libc::STDOUT_FILENO;
-
-fn line(name: &[u8], ok: bool) {
-    io::write_all(STDOUT_FILENO, name);
-    if ok {
-        io::write_all(STDOUT_FILENO, b" agrees\n");
-    } else {
-        io::write_all(STDOUT_FILENO, b" differs\n");
-    }
-}
+use lines::line;
 
 fn bad(name: &[u8], image: &[u8], place: usize) {
     let ok = match reader::read(image) {

@@ -77,7 +77,7 @@ module _ (c : Claim) (f : Fit c) where
   abbrev Words : List ℕ
   Words = spread cellWord (c .seat .cells) (c .cells)
 
-  at-cell : (i : ℕ) (b : Bool) → ltb i (length (c .cells)) ≡ b → (if b then slotAt Tags Words i else Missing) ≡ found (getElem? (c .cells) i)
+  pub at-cell : (i : ℕ) (b : Bool) → ltb i (length (c .cells)) ≡ b → (if b then slotAt Tags Words i else Missing) ≡ found (getElem? (c .cells) i)
   unfolding found
   at-cell i true e =
       let l = ltb-true i (length (c .cells)) e in

@@ -1,5 +1,5 @@
 // W10 of document 01 and arithmetic at its ends, run on the code and compared with values that were worked out elsewhere.
-use libc::STDOUT_FILENO;
+use lines::line;
 use numbers::Operation;
 use value::Value;
 use value::wanted::Answer;
@@ -63,15 +63,6 @@ fn whole(op: Operation, x: i64, y: i64) -> Answer {
 
 fn real(op: Operation, x: f64, y: f64) -> Answer {
     numbers::operate(op, Value::Float(x), Value::Float(y))
-}
-
-fn line(name: &[u8], ok: bool) {
-    io::write_all(STDOUT_FILENO, name);
-    if ok {
-        io::write_all(STDOUT_FILENO, b" agrees\n");
-    } else {
-        io::write_all(STDOUT_FILENO, b" differs\n");
-    }
 }
 
 const GREATEST: i64 = 0x7fff_ffff_ffff_ffff;

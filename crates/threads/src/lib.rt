@@ -156,7 +156,8 @@ fn wake_first(heads: &mut [u64], accs: &mut [u64], live: usize, place: u16)
     wake(&mut heads[first..live], &mut accs[first..live], wide(place));
 }
 
-fn put_record(heads: &mut [u64], accs: &mut [u64], i: usize, place: u16, t: Thread)
+// A record written: the place 1 is ready.
+pub fn put_record(heads: &mut [u64], accs: &mut [u64], i: usize, place: u16, t: Thread)
     ensures { λ _. ⌜ putAt i place t (row (now (heads .entry)) (now (accs .entry))) ≡ row (now (heads .exit)) (now (accs .exit)) ⌝ }
 {
     let acc = t.acc;

@@ -1,3 +1,4 @@
 pub mod Effects
 pub mod Books
 pub mod Turns
+pub mod Reports

@@ -31,7 +31,7 @@ use Rattle.tying.specs.Tied.{partsOf}
 use Rattle.tying.proofs.Effects.{effect-same}
 use Rattle.tying.proofs.Books.{perform-same}
 
-none-length : {A : Type 0} (xs : List A) → eqb (length xs) 0 ≡ isNone xs
+pub none-length : {A : Type 0} (xs : List A) → eqb (length xs) 0 ≡ isNone xs
 none-length [] = refl
 none-length (x ∷ xs) = ne-eqb (suc (length xs)) 0 (λ e. omega arith)
 
