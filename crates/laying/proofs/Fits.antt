@@ -37,7 +37,7 @@ seen-below c l = by (leb (c .seat .start) l) refl (ltb (l - c .seat .start) (len
     by true p true q e = let i = leb-true (c .seat .start) l p in let j = ltb-true (l - c .seat .start) (length (c .cells)) q in omega arith
     by true p false q e = clash (let z = rw (get-none (c .cells) (l - c .seat .start) (ltb-false _ _ q)) at e in cc)
 
-none-is : {A : Type 0} (xs : List A) → isNone xs ≡ true → xs ≡ []
+pub none-is : {A : Type 0} (xs : List A) → isNone xs ≡ true → xs ≡ []
 none-is [] e = refl
 none-is (x ∷ xs) e = clash (cc)
 

@@ -74,7 +74,7 @@ module _ {A : Type 0} (f h : A → ℕ) (g : ℕ → ℕ → A) where
       }
 
 -- numbers, written as they are
-map-same : (xs : List ℕ) → map (λ b. b) xs ≡ xs
+pub map-same : (xs : List ℕ) → map (λ b. b) xs ≡ xs
 map-same [] = refl
 map-same (x ∷ xs) = ap (λ (r : List ℕ). x ∷ r) (map-same xs)
 

@@ -72,7 +72,7 @@ module _ (n : ℕ) (row : List Live) where
   unfolding putAt headNumber accNumber
   row-put i t p h = rw (spread-set headNumber n row i (live t p) h, spread-set accNumber n row i (live t p) h)
 
-  row-add : (i : ℕ) (t : Thread) (p : Place) → i ≡ length row → length row < n → putAt i (placeNumber p) t (laidRow n row) ≡ laidRow n (row ++ live t p ∷ [])
+  pub row-add : (i : ℕ) (t : Thread) (p : Place) → i ≡ length row → length row < n → putAt i (placeNumber p) t (laidRow n row) ≡ laidRow n (row ++ live t p ∷ [])
   unfolding putAt headNumber accNumber
   row-add i t p e h = rw (e, spread-add headNumber n row (live t p) h, spread-add accNumber n row (live t p) h)
 

@@ -36,7 +36,7 @@ root-whole : (r : ℕ) (vs : List Value) → allGood vs ≡ true → CellsSound 
 unfolding rootFrame cellSound
 root-whole r vs h = all-cons refl (all-append (inputs-whole vs h) (all-replicate (r - 1 - length vs) (empty Icell) refl))
 
-root-length : (r : ℕ) (vs : List Value) → length vs < r → length (rootFrame r vs) ≡ r
+pub root-length : (r : ℕ) (vs : List Value) → length vs < r → length (rootFrame r vs) ≡ r
 unfolding rootFrame
 root-length r vs h = simp (length-append, length-map, length-replicate) (omega arith)
 

@@ -1,0 +1,4 @@
+pub mod Filled
+pub mod Machines
+pub mod Reading
+pub mod Stands
