@@ -1,5 +1,6 @@
 pub mod Absurd
 pub mod Choice
+pub mod Answers
 pub mod Every
 pub mod Elements
 pub mod Integers

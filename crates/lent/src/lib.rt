@@ -1,5 +1,6 @@
 // Lent slices of each width: one element read or written, total, and runs of them.
 ghost use mathlib.Core.Path.{_≡_};
+ghost use lib.Dec.{ltb};
 ghost use lib.ListN.{getD, set};
 ghost use Rattle.laws.specs.Lists.{all};
 ghost use Rattle.lent.specs.Runs.{filledFrom, wiped, isZero, overlaid};
@@ -148,6 +149,16 @@ pub fn is_bare64(s: &[u64]) -> bool
         i += 1;
     }
     true
+}
+
+// That bytes are below 256, said of the list: their type makes it true, so there is nothing to find out.
+pub fn is_bytes(s: &[u8]) -> bool
+    ensures { λ r. ⌜ r ≡ all (λ b. ltb b 256) (now (s .entry)) ⌝ }
+{
+    if s.len() == 0 {
+        return true;
+    }
+    (s[0] as u16) < 256
 }
 
 // Writes `from` over the front of `to`, if it fits.

@@ -44,7 +44,7 @@ stands c code t e =
     parted (wellFormed (t .thread .acc)) _ e λ acc e.
     parted (start (c .image) code (t .thread .position)) _ e λ at place. record { runs = record { frame = frame; acc = acc; at = at }; place = place }
 
-stands-sound : (c : Claim) (code : ℕ) (t : Live) → Stands c code t → liveSound c code t ≡ true
+pub stands-sound : (c : Claim) (code : ℕ) (t : Live) → Stands c code t → liveSound c code t ≡ true
 unfolding liveSound
 stands-sound c code t s = both (s .runs .frame) (both (s .runs .acc) (both (s .runs .at) (s .place)))
 
