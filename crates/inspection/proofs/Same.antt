@@ -300,119 +300,130 @@ module _ (start : ℕ) (p : Parts) where
   abbrev claimed : Tally → Bool
   claimed n = claimStands n start (p .tags) (p .words) (p .heads) (p .accs) Own
 
-  -- what both tests say of it, beside its being well laid
-  record Used : Type 0 where
+  -- what both tests say of its image and of its book
+  record Booked : Type 0 where
     r : ℕ
     inputs : ℕ
     reads : readImage Own ≡ Good r inputs code
     slots : r ≤ used
+    within : used ≤ share
     room : live ≤ threads
+    few : live ≤ 32
     steps : getD (p .book) 8 0 < 4294967296
+
+  -- and, beside its being well laid, of the rest
+  record Used : Type 0 where
+    book : Booked
     bytes : all (λ b. ltb b 256) Own ≡ true
     cells : all cellSound Cells ≡ true
     row : all (liveSound (claimIn start p) code) Row ≡ true
     refusal : refusalSound (claimIn start p) ≡ true
 
-  module _ (n : Lengths) (z : long ≡ 0 → ⊥) where
-    some-image : long ≤ 4096 → isNone Own ≡ false
-    some-image h = let a = n .image in some-taken long (p .image) z (omega arith)
+  record Taken : Type 0 where
+    laid : Laid
+    used : Used
 
-    used-sound : Laid → Used → seatSound (claimIn start p) ≡ true
-    unfolding seatSound claimSound claimIn
-    used-sound l u =
-        let a = cells-back l .long in
-        let b = row-back l .long in
-        let s = u .slots in
-        let w = l .within in
-        let m = u .room in
-        rw (some-image (l .short), u .reads)
-        (both (u .bytes) (both (le-leb (u .r) (length Cells) (omega arith)) (both (le-leb (length Cells) share (omega arith)) (both (u .cells) (both (u .row)
-        (both (le-leb (length Row) threads (omega arith)) (both (u .refusal) (lt-ltb _ _ (u .steps)))))))))
+  booked : acceptedStands Tallied (readImage Own) ≡ true → Booked
+  booked a = by (readImage Own) refl a
+    where
+      by : (v : Verdict) → readImage Own ≡ v → acceptedStands Tallied v ≡ true → Booked
+      by TooLong e a = unfold acceptedStands in clash (cc)
+      by (BadAt q) e a = unfold acceptedStands in clash (cc)
+      by (Good r i d) e a = unfold acceptedStands numbersStand tallyIn in
+          parted (eqb code d) _ a λ same a.
+          parted (leb r used) _ a λ slots a.
+          parted (leb used share) _ a λ within a.
+          parted (leb live threads) _ a λ room a.
+          parted (leb live 32) _ a λ few steps.
+          let k = eqb-true code d same in
+          record {
+            r = r;
+            inputs = i;
+            reads = e ∙ rw k;
+            slots = leb-true _ _ slots;
+            within = leb-true _ _ within;
+            room = leb-true _ _ room;
+            few = leb-true _ _ few;
+            steps = ltb-true _ _ steps;
+          }
 
-    -- the code's test of such a claim, taken apart
-    record Taken : Type 0 where
-      laid : Laid
-      used : Used
+  book-stands : Booked → acceptedStands Tallied (readImage Own) ≡ true
+  unfolding acceptedStands numbersStand tallyIn
+  book-stands b =
+      rw (b .reads)
+      (both (eq-eqb code code refl) (both (le-leb _ _ (b .slots)) (both (le-leb _ _ (b .within))
+      (both (le-leb _ _ (b .room)) (both (le-leb _ _ (b .few)) (lt-ltb _ _ (b .steps)))))))
 
+  -- the code's test of such a claim, taken apart, and put together again
+  module _ (n : Lengths) where
     stands-laid : imageStands long (p .image) ≡ true → claimed Tallied ≡ true → Taken
-    unfolding imageStands claimStands storeStands rowStands held tallyIn
+    unfolding imageStands claimStands storeStands rowStands held codeOf tallyIn
     stands-laid i e =
         parted (leb long (length (p .image))) _ i λ short bare.
         parted (acceptedStands Tallied (readImage Own)) _ e λ accepted e.
         parted (all (λ b. ltb b 256) Own) _ e λ bytes e.
         parted (storeStands used (p .tags) (p .words)) _ e λ store e.
-        parted (rowStands (p .tags) (p .words) (ground Tallied start) Own live (p .heads) (p .accs)) _ e λ row refusal.
+        parted (rowStands (p .tags) (p .words) (ground Tallied start) Own live (p .heads) (p .accs)) _ e λ lives refusal.
         parted (canonical cellTag cellWord cellRead used (p .tags) (p .words)) (all cellSound Cells) store λ store cells.
-        parted (canonical headNumber accNumber liveRead live (p .heads) (p .accs)) (all (liveOn (p .tags) (p .words) (ground Tallied start) Own) Row) row λ bore row.
-        by (readImage Own) refl accepted (rw (n .image) at (leb-true long (length (p .image)) short)) bare bytes store cells bore row refusal
-      where
-        by : (v : Verdict) → readImage Own ≡ v → acceptedStands Tallied v ≡ true
-            → long ≤ 4096 → all isZero (drop long (p .image)) ≡ true → all (λ b. ltb b 256) Own ≡ true
-            → canonical cellTag cellWord cellRead used (p .tags) (p .words) ≡ true → all cellSound Cells ≡ true
-            → canonical headNumber accNumber liveRead live (p .heads) (p .accs) ≡ true
-            → all (liveOn (p .tags) (p .words) (ground Tallied start) Own) Row ≡ true → refusalStands Tallied (p .heads) ≡ true → Taken
-        by TooLong e a short bare bytes store cells bore row refusal = unfold acceptedStands in clash (cc)
-        by (BadAt q) e a short bare bytes store cells bore row refusal = unfold acceptedStands in clash (cc)
-        by (Good r i d) e a short bare bytes store cells bore row refusal = unfold acceptedStands numbersStand tallyIn codeOf in
-            parted (eqb code d) _ a λ same a.
-            parted (leb r used) _ a λ slots a.
-            parted (leb used share) _ a λ within a.
-            parted (leb live threads) _ a λ room a.
-            parted (leb live 32) _ a λ few steps.
-            let k = eqb-true code d same in
-            let l : Laid = record {
-              lens = n;
-              short = short;
-              bare = bare;
-              entry = k ∙ sym (ap codeOf e);
-              within = leb-true _ _ within;
-              few = leb-true _ _ few;
-              cells = store;
-              row = bore;
-            } in
-            record {
-              laid = l;
-              used = record {
-                r = r;
-                inputs = i;
-                reads = e ∙ rw k;
-                slots = leb-true _ _ slots;
-                room = leb-true _ _ room;
-                steps = ltb-true _ _ steps;
-                bytes = bytes;
-                cells = cells;
-                row = ap (λ (q : Live → Bool). all q Row) (sym (rows-same l cells)) ∙ row;
-                refusal = sym (refusals-same l) ∙ refusal;
-              };
-            }
+        parted (canonical headNumber accNumber liveRead live (p .heads) (p .accs)) (all (liveOn (p .tags) (p .words) (ground Tallied start) Own) Row) lives λ lives row.
+        let b = booked accepted in
+        let l : Laid = record {
+          lens = n;
+          short = rw (n .image) at (leb-true long (length (p .image)) short);
+          bare = bare;
+          entry = sym (ap codeOf (b .reads));
+          within = b .within;
+          few = b .few;
+          cells = store;
+          row = lives;
+        } in
+        record {
+          laid = l;
+          used = record {
+            book = b;
+            bytes = bytes;
+            cells = cells;
+            row = ap (λ (q : Live → Bool). all q Row) (sym (rows-same l cells)) ∙ row;
+            refusal = sym (refusals-same l) ∙ refusal;
+          };
+        }
 
-    -- and put together again
-    laid-stands : Laid → Used → claimed Tallied ≡ true
-    unfolding claimStands storeStands rowStands held acceptedStands numbersStand tallyIn
-    laid-stands l u =
-        rw (u .reads)
-        (both (both (eq-eqb code code refl) (both (le-leb _ _ (u .slots)) (both (le-leb _ _ (l .within)) (both (le-leb _ _ (u .room)) (both (le-leb _ _ (l .few)) (lt-ltb _ _ (u .steps)))))))
-        (both (u .bytes) (both (both (l .cells) (u .cells))
-        (both (both (l .row) (ap (λ (q : Live → Bool). all q Row) (rows-same l (u .cells)) ∙ u .row)) (refusals-same l ∙ u .refusal)))))
+  laid-stands : Laid → Used → claimed Tallied ≡ true
+  unfolding claimStands storeStands rowStands held tallyIn
+  laid-stands l u =
+      both (book-stands (u .book)) (both (u .bytes) (both (both (l .cells) (u .cells))
+      (both (both (l .row) (ap (λ (q : Live → Bool). all q Row) (rows-same l (u .cells)) ∙ u .row)) (refusals-same l ∙ u .refusal))))
 
-    -- a sound claim in use
-    in-use : Laid → seatSound (claimIn start p) ≡ true → Used
+  -- the definition's
+  module _ (z : long ≡ 0 → ⊥) (l : Laid) where
+    some-image : isNone Own ≡ false
+    some-image = let a = l .lens .image in let h = l .short in some-taken long (p .image) z (omega arith)
+
+    used-sound : Used → seatSound (claimIn start p) ≡ true
+    unfolding seatSound claimSound claimIn
+    used-sound u =
+        let b = u .book in
+        rw (some-image, b .reads)
+        (both (u .bytes) (both (le-leb (b .r) (length Cells) (rw (cells-back l .long) (b .slots))) (both (le-leb (length Cells) share (rw (cells-back l .long) (b .within)))
+        (both (u .cells) (both (u .row) (both (le-leb (length Row) threads (rw (row-back l .long) (b .room))) (both (u .refusal) (lt-ltb _ _ (b .steps)))))))))
+
+    in-use : seatSound (claimIn start p) ≡ true → Used
     unfolding claimIn codeOf
-    in-use l s =
-        let i = used-seat (claimIn start p) (some-image (l .short)) s in
+    in-use s =
+        let i = used-seat (claimIn start p) some-image s in
         let d : code ≡ i .code = l .entry ∙ ap codeOf (i .reads) in
         let o = i .sound in
-        let a = cells-back l .long in
-        let b = row-back l .long in
-        let x = o .slots in
-        let y = o .live in
         record {
-          r = i .r;
-          inputs = i .n;
-          reads = i .reads ∙ rw d;
-          slots = omega arith;
-          room = omega arith;
-          steps = o .steps;
+          book = record {
+            r = i .r;
+            inputs = i .n;
+            reads = i .reads ∙ rw d;
+            slots = rw (cells-back l .long) at (o .slots);
+            within = l .within;
+            room = rw (row-back l .long) at (o .live);
+            few = l .few;
+            steps = o .steps;
+          };
           bytes = o .bytes;
           cells = Every.passes cellSound (o .cells);
           row = rw d (Every.passes (liveSound (claimIn start p) (i .code)) (Every.all-also (stands-sound (claimIn start p) (i .code)) (o .row)));
@@ -431,8 +442,8 @@ module _ (start : ℕ) (p : Parts) where
       (λ z e.
       let k = eqb-false long 0 z in
       parted (imageStands long (p .image)) (claimed Tallied) e λ i e.
-      let t = stands-laid n k i e in
-      both (well-laid (t .laid)) (used-sound n k (t .laid) (t .used)))
+      let t = stands-laid n i e in
+      both (well-laid (t .laid)) (used-sound k (t .laid) (t .used)))
 
   borne-out : soundOn start p ≡ true → testOn start p ≡ true
   unfolding testOn soundOn
@@ -448,8 +459,7 @@ module _ (start : ℕ) (p : Parts) where
       some : Laid → seatSound (claimIn start p) ≡ true → eqb long 0 ≡ false → seatStands start Tallied p ≡ true
       some l s z = unfold seatStands imageStands tallyIn in
           let k = eqb-false long 0 z in
-          let n = l .lens in
-          rw z (both (both (le-leb long (length (p .image)) (rw (n .image) (l .short))) (l .bare)) (laid-stands n k l (in-use n k l s)))
+          rw z (both (both (le-leb long (length (p .image)) (rw (l .lens .image) (l .short))) (l .bare)) (laid-stands l (in-use k l s)))
 
   pub test-sound : testOn start p ≡ soundOn start p
   test-sound = same-test (testOn start p) (soundOn start p) held-up borne-out

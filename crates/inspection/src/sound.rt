@@ -129,7 +129,7 @@ fn tag_of(head: u64) -> u16
     (head / 281474976710656 % 65536) as u16
 }
 
-// A thread's record: its accumulator well formed, its position an instruction's start, its place sound.
+// A thread's record: its accumulator well formed, its place sound, its position an instruction's start.
 fn record_stands(tags: &[u16], words: &[u64], image: &[u8], g: Ground, head: u64, word: u64) -> bool
     ensures { λ r. ⌜ r ≡ Tests.recordStands (now (tags .entry)) (now (words .entry)) g (now (image .entry)) head word ⌝ }
 {
@@ -278,7 +278,7 @@ fn claim_stands(
     refusal_stands(n, heads)
 }
 
-// The book of a vacant seat: nothing but its shares.
+// A book with nothing but its shares; the image's length is tested before.
 fn is_idle(n: Tally) -> bool
     ensures { λ r. ⌜ r ≡ Tests.isIdle n ⌝ }
 {
@@ -300,6 +300,7 @@ fn is_idle(n: Tally) -> bool
     n.steps == 0
 }
 
+// A vacant seat: nothing but its shares, and every part bare.
 fn vacant_stands(
     n: Tally,
     tags: &[u16],
@@ -370,6 +371,7 @@ fn image_stands(length: u32, image: &[u8]) -> bool
     is_bare8(&image[k..])
 }
 
+// Any lengths and any contents: whether they are the parts of a sound claim, whose region starts at `start`.
 pub fn seat_sound(
     book: &[u32],
     tags: &[u16],

@@ -2,3 +2,5 @@ pub mod Filled
 pub mod Machines
 pub mod Reading
 pub mod Stands
+pub mod Pieces
+pub mod Testing

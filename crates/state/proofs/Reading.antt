@@ -5,7 +5,7 @@ use mathlib.Core.Path.{_≡_, refl, sym, ap, _∙_, subst}
 use mathlib.Core.Bool.{true, false, _&&_}
 use mathlib.Core.List.{[], _∷_}
 use lib.Dec.{eqb}
-use lib.ListN.{length, getD, take, drop, length-drop, length-replicate, getD-replicate}
+use lib.ListN.{getD, take, drop, length-drop, length-replicate, getD-replicate}
 use lib.Seq.{getD-take}
 use borrow.Author.Tests.{le-leb, leb-true, eq-eqb, ne-eqb}
 use Rattle.laws.specs.Lists.{all}
@@ -21,21 +21,12 @@ use Rattle.laying.proofs.Fitting.{Fit, live-32}
 use Rattle.laying.proofs.Pairs.{zeros-are, zeros-pass}
 use Rattle.laying.proofs.Back.{laid-back, laid-well, back-laid}
 use Rattle.inspection.specs.Sound.{soundOn}
-use Rattle.state.specs.State.{state, filled, share, front, behind, claimsFrom, bare, fairAt, standFrom}
+use Rattle.state.specs.State.{state, filled, Long, share, front, behind, claimsFrom, bare, fairAt, standFrom}
 use Rattle.state.proofs.Filled.{filled-front, filled-behind, filled-long, filled-back}
 use Rattle.state.proofs.Machines.{shareOf, Right, Seats, none, more, right-some, right-fits}
 
 pub alike : {p q : Parts} → p .book ≡ q .book → p .tags ≡ q .tags → p .words ≡ q .words → p .heads ≡ q .heads → p .accs ≡ q .accs → p .image ≡ q .image → p ≡ q
 alike b t w h a i = rw (b, t, w, h, a, i)
-
--- parts of k seats, with r cells in all
-pub record Long (k r : ℕ) (p : Parts) : Type 0 where
-  pub book : length (p .book) ≡ k * 9
-  pub tags : length (p .tags) ≡ r
-  pub words : length (p .words) ≡ r
-  pub heads : length (p .heads) ≡ k * 32
-  pub accs : length (p .accs) ≡ k * 32
-  pub image : length (p .image) ≡ k * 4096
 
 unfoldable pub laidIn : ℕ → ℕ → Machine → Parts
 laidIn k r m =

@@ -14,9 +14,9 @@ use Rattle.rules.specs.Claim.{Claim}
 use Rattle.rules.specs.Calls.{Machine, mayOpen}
 use Rattle.rules.specs.Sound.{sharesOf, sound}
 use Rattle.laying.specs.Laid.{Parts, laidBook, laidClaim}
-use Rattle.state.specs.State.{State, state, filled, laid, long, share, within, machineOf, claimsFrom, standFrom, stateSound, Stands}
+use Rattle.state.specs.State.{State, state, filled, laid, isLong, long, Long, share, within, machineOf, claimsFrom, standFrom, stateSound, Stands}
 use Rattle.state.proofs.Machines.{Seats, more, right-some, seats-of, sound-of}
-use Rattle.state.proofs.Reading.{alike, Long, laidIn, Lies, lies, stood, claims-taken}
+use Rattle.state.proofs.Reading.{alike, laidIn, Lies, lies, stood, claims-taken}
 
 -- the minimum lengths
 pub record Enough (s : State) : Type 0 where
@@ -28,7 +28,7 @@ pub record Enough (s : State) : Type 0 where
   pub image : 32768 ≤ length (s .image)
 
 pub long-enough : (s : State) → long s ≡ true → Enough s
-unfolding long
+unfolding long isLong
 long-enough s e =
     parted (leb 72 (length (s .book))) _ e λ book e.
     parted (leb 2048 (length (s .tags))) _ e λ tags e.
@@ -45,7 +45,7 @@ long-enough s e =
     }
 
 pub enough-long : (s : State) → Enough s → long s ≡ true
-unfolding long
+unfolding long isLong
 enough-long s h =
     both (le-leb 72 (length (s .book)) (h .book))
     (both (le-leb 2048 (length (s .tags)) (h .tags))
@@ -98,7 +98,7 @@ over-within s =
     alike (take-append-drop 72 (s .book)) (take-append-drop 2048 (s .tags)) (take-append-drop 2048 (s .words))
     (take-append-drop 256 (s .heads)) (take-append-drop 256 (s .accs)) (take-append-drop 32768 (s .image))
 
-within-long : (s : State) → Enough s → Long 8 2048 (within s)
+pub within-long : (s : State) → Enough s → Long 8 2048 (within s)
 within-long s h = record {
   book = length-take-le 72 (s .book) (h .book);
   tags = length-take-le 2048 (s .tags) (h .tags);

@@ -1,7 +1,7 @@
 -- The lent state: how the claims of a machine lie in it, and how they are read back. Assumes nothing.
-use Prim.Native.Nat.{ℕ, zero, suc, _+_, _-_}
+use Prim.Native.Nat.{ℕ, zero, suc, _+_, _*_, _-_, _≤_}
 use mathlib.Core.Path.{_≡_}
-use mathlib.Core.Bool.{Bool, true, _&&_, not}
+use mathlib.Core.Bool.{Bool, true, false, _&&_, not}
 use mathlib.Core.Option.{Option, none, some}
 use mathlib.Core.List.{List, [], _∷_, _++_}
 use lib.ListN.{length, getD, take, drop, replicate}
@@ -15,6 +15,8 @@ use Rattle.lent.specs.Runs.{isZero}
 use Rattle.laying.specs.Laid.{Parts, laidClaim}
 use Rattle.laying.specs.Back.{claimIn}
 use Rattle.inspection.specs.Sound.{soundOn}
+use Rattle.state.specs.declared.whole.First.{First}
+use Rattle.state.specs.declared.whole.First.the-variants.{Ends, Seat}
 
 -- the six lent buffers, each as a list: all seats' parts, one after the other
 abbrev pub State : Type 0
@@ -37,11 +39,14 @@ laid m s =
     (filled (λ c. laidClaim c .words) 2048 m ++ drop 2048 (s .words)) (filled (λ c. laidClaim c .heads) 256 m ++ drop 256 (s .heads))
     (filled (λ c. laidClaim c .accs) 256 m ++ drop 256 (s .accs)) (filled (λ c. laidClaim c .image) 32768 m ++ drop 32768 (s .image))
 
+-- the minimum length of each buffer
+unfoldable pub isLong : ℕ → ℕ → ℕ → ℕ → ℕ → ℕ → Bool
+isLong book tags words heads accs images =
+    leb 72 book && (leb 2048 tags && (leb 2048 words && (leb 256 heads && (leb 256 accs && leb 32768 images))))
+
 -- "its buffers have their minimum lengths"
 unfoldable pub long : State → Bool
-long s =
-    leb 72 (length (s .book)) && (leb 2048 (length (s .tags)) && (leb 2048 (length (s .words))
-    && (leb 256 (length (s .heads)) && (leb 256 (length (s .accs)) && leb 32768 (length (s .image))))))
+long s = isLong (length (s .book)) (length (s .tags)) (length (s .words)) (length (s .heads)) (length (s .accs)) (length (s .image))
 
 -- ---- claims read back
 
@@ -71,6 +76,25 @@ claimsFrom (suc n) l p = if eqb (share p) 0 then [] else claimIn l (front p) ∷
 unfoldable pub machineOf : State → Machine
 machineOf s = claimsFrom 8 0 (within s)
 
+-- parts of k seats, with r cells in all
+pub record Long (k r : ℕ) (p : Parts) : Type 0 where
+  pub book : length (p .book) ≡ k * 9
+  pub tags : length (p .tags) ≡ r
+  pub words : length (p .words) ≡ r
+  pub heads : length (p .heads) ≡ k * 32
+  pub accs : length (p .accs) ≡ k * 32
+  pub image : length (p .image) ≡ k * 4096
+
+-- room for a seat whose region starts at l
+pub record Ahead (l : ℕ) (p : Parts) : Type 0 where
+  pub book : 9 ≤ length (p .book)
+  pub tags : length (p .tags) ≡ 2048 - l
+  pub words : length (p .words) ≡ 2048 - l
+  pub heads : 32 ≤ length (p .heads)
+  pub accs : 32 ≤ length (p .accs)
+  pub image : 4096 ≤ length (p .image)
+  pub start : l ≤ 2048
+
 -- ---- soundness
 
 unfoldable pub bare : Parts → Bool
@@ -81,6 +105,10 @@ bare p =
 -- "shares obey the limits": 2,048 cells in all, of which l are taken
 unfoldable pub fairAt : ℕ → Parts → Bool
 fairAt l p = fairShare (record { cells = share p; threads = getD (p .book) 1 0 }) && leb (l + share p) 2048
+
+-- what is found of the first seat: there is none, and whether all is zero; it is not sound; or it is, with so many cells
+unfoldable pub firstIn : ℕ → Parts → First
+firstIn l p = if eqb (share p) 0 then Ends (bare p) else (if fairAt l p && soundOn l (front p) then Seat (share p) else Ends false)
 
 -- each seat's parts are those of a sound claim, and behind the last seat all is zero
 unfoldable pub standFrom : ℕ → ℕ → Parts → Bool

@@ -1,13 +1,19 @@
-// Where a seat's cells lie.
+// Where a seat's parts lie.
 use lent::get32;
 ghost use mathlib.Core.Path.{_≡_};
 ghost use Prim.Native.Nat.{_≤_};
-ghost use Rattle.state.specs.Seats.{baseOf};
+ghost use Rattle.state.specs.Seats.{Base, regionIn};
 
-// Seat k's cells: from the sum of the shares before it, as many as its share.
-pub fn base_of(book: &[u32], k: usize) -> usize
+// A seat's region: its cells, from the first to behind the last.
+pub enum Region {
+    At(usize, usize),
+    Nowhere,
+}
+
+// Where seat k's cells start: the sum of the shares before it.
+fn base_of(book: &[u32], k: usize) -> usize
     requires { ⌜ k ≤ 8 ⌝ }
-    ensures { λ r. ⌜ r ≡ baseOf (now (book .entry)) k ⌝ }
+    ensures { λ r. ⌜ Base (now (book .entry)) k r ⌝ }
 {
     let mut sum: usize = 0;
     let mut i: usize = 0;
@@ -16,4 +22,19 @@ pub fn base_of(book: &[u32], k: usize) -> usize
         i += 1;
     }
     sum
+}
+
+// A seat is there if its cell share is not 0.
+pub fn region_of(book: &[u32], k: usize) -> Region
+    ensures { λ r. ⌜ r ≡ regionIn (now (book .entry)) k ⌝ }
+{
+    if 8 <= k {
+        return Region::Nowhere;
+    }
+    let n = get32(book, k * 9) as usize;
+    if n == 0 {
+        return Region::Nowhere;
+    }
+    let a = base_of(book, k);
+    Region::At(a, a + n)
 }

@@ -56,7 +56,7 @@ loop-again : tie.Need-loop-again Inv-loop μ-loop
 loop-again c = summed (c .before .before .loop .inv) (c .before .loop-test .taken) (c .get32 .ensures) (search needs)
 
 returns : tie.Need-returns Inv-loop μ-loop
-returns c = let v = c .before .loop .inv in let a = v .within in let h : c .before .loop .i ≡ c .before .before .before .args .k = omega arith in rw (← h) (v .same)
+returns c = let v = c .before .loop .inv in let a = v .within in let h : c .before .loop .i ≡ c .before .before .before .args .k = omega arith in rw (← h) (record { same = v .same; small = v .small })
 
 pub base-of-spec : {M : Type 1} → statement M
 base-of-spec =
