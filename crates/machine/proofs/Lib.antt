@@ -1,0 +1,5 @@
+pub mod Said
+pub mod Picks
+pub mod Entries
+pub mod Runs
+pub mod Openings

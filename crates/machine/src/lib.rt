@@ -1,0 +1,3 @@
+// The five public calls over the lent state, each in a file of its own. None asks anything of what it is lent.
+pub mod opening;
+pub mod running;
