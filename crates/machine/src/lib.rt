@@ -1,3 +1,6 @@
 // The five public calls over the lent state, each in a file of its own. None asks anything of what it is lent.
+pub mod clearing;
+pub mod loading;
 pub mod opening;
+pub mod reporting;
 pub mod running;

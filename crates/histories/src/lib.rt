@@ -1,0 +1,1 @@
+// Histories of the five calls: theorems only, in proofs/.
