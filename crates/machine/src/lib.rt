@@ -1,6 +1,2 @@
-// The five public calls over the lent state, each in a file of its own. None asks anything of what it is lent.
-pub mod clearing;
-pub mod loading;
-pub mod opening;
-pub mod reporting;
+// The public call run over the lent state; what each of the five calls does stands in specs/Calls.antt.
 pub mod running;
