@@ -26,7 +26,7 @@ use Rattle.laying.specs.Laid.{Parts, cellTag, cellWord, headNumber, accNumber}
 use Rattle.laying.specs.Back.{unspread, canonical, cellRead, liveRead, claimIn, wellLaid}
 use Rattle.laying.proofs.Pairs.{Written, back}
 use Rattle.inspection.specs.Sound.{soundOn}
-use Rattle.inspection.specs.Tests.{held, liveOn, storeStands, rowStands, refusalStands, numbersStand, acceptedStands, ground, claimStands, isIdle, vacantStands, lengthsStand, imageStands, seatStands, testOn}
+use Rattle.inspection.specs.Tests.{held, liveOn, storeStands, rowStands, refusalStands, numbersStand, acceptedStands, ground, claimStands, isIdle, partsBare, vacantStands, lengthsStand, imageStands, seatStands, testOn}
 use Rattle.inspection.proofs.Claims.{live-same, refusal-same}
 
 -- two tests, each of which holds where the other does, come out the same
@@ -213,7 +213,7 @@ module _ (start : ℕ) (p : Parts) where
     image : all isZero (p .image) ≡ true
 
   vacant : vacantStands Tallied (p .tags) (p .words) (p .heads) (p .accs) (p .image) ≡ true → Vacant
-  unfolding vacantStands isIdle tallyIn
+  unfolding vacantStands partsBare isIdle tallyIn
   vacant e =
       parted (isIdle Tallied) _ e λ idle e.
       parted (eqb code 0) _ idle λ code idle.
@@ -240,7 +240,7 @@ module _ (start : ℕ) (p : Parts) where
       }
 
   vacant-stands : Vacant → vacantStands Tallied (p .tags) (p .words) (p .heads) (p .accs) (p .image) ≡ true
-  unfolding vacantStands isIdle tallyIn
+  unfolding vacantStands partsBare isIdle tallyIn
   vacant-stands v =
       both (both (eq-eqb _ 0 (v .code)) (both (eq-eqb _ 0 (v .used)) (both (eq-eqb _ 0 (v .live))
       (both (eq-eqb _ 0 (v .refusal)) (both (eq-eqb _ 0 (v .halted)) (eq-eqb _ 0 (v .steps)))))))

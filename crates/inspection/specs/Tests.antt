@@ -119,9 +119,13 @@ isIdle n =
     eqb (n .code) 0
     && (eqb (n .used) 0 && (eqb (n .live) 0 && (eqb (n .refusal) 0 && (eqb (n .halted) 0 && eqb (n .steps) 0))))
 
+-- zero wherever nothing is held
+unfoldable pub partsBare : List ℕ → List ℕ → List ℕ → List ℕ → List ℕ → Bool
+partsBare tags words heads accs image = all isZero tags && (all isZero words && (all isZero heads && (all isZero accs && all isZero image)))
+
 unfoldable pub vacantStands : Tally → List ℕ → List ℕ → List ℕ → List ℕ → List ℕ → Bool
 vacantStands n tags words heads accs image =
-    isIdle n && (all isZero tags && (all isZero words && (all isZero heads && (all isZero accs && all isZero image))))
+    isIdle n && partsBare tags words heads accs image
 
 -- "its buffers have their minimum lengths": of a seat, its parts have theirs
 unfoldable pub lengthsStand : Parts → Bool

@@ -16,7 +16,8 @@ use value::coding::Decoded;
 ghost use mathlib.Core.Path.{_≡_};
 ghost use Prim.Native.Nat.{_/_, _%_};
 ghost use Rattle.rules.specs.Sound.{isEmpty};
-ghost use Rattle.inspection.specs.Sound.{parts, soundOn};
+ghost use Rattle.laying.specs.Laid.{parts};
+ghost use Rattle.inspection.specs.Sound.{soundOn};
 ghost use Rattle.inspection.specs.Tests as Tests;
 
 // What the threads of a claim stand on: cells used, the region's start, the start of the code.
@@ -300,20 +301,10 @@ fn is_idle(n: Tally) -> bool
     n.steps == 0
 }
 
-// A vacant seat: nothing but its shares, and every part bare.
-fn vacant_stands(
-    n: Tally,
-    tags: &[u16],
-    words: &[u64],
-    heads: &[u64],
-    accs: &[u64],
-    image: &[u8],
-) -> bool
-    ensures { λ r. ⌜ r ≡ Tests.vacantStands n (now (tags .entry)) (now (words .entry)) (now (heads .entry)) (now (accs .entry)) (now (image .entry)) ⌝ }
+// Every part but the book is bare.
+pub fn parts_bare(tags: &[u16], words: &[u64], heads: &[u64], accs: &[u64], image: &[u8]) -> bool
+    ensures { λ r. ⌜ r ≡ Tests.partsBare (now (tags .entry)) (now (words .entry)) (now (heads .entry)) (now (accs .entry)) (now (image .entry)) ⌝ }
 {
-    if !is_idle(n) {
-        return false;
-    }
     if !is_bare16(tags) {
         return false;
     }
@@ -327,6 +318,23 @@ fn vacant_stands(
         return false;
     }
     is_bare8(image)
+}
+
+// A vacant seat: nothing but its shares.
+fn vacant_stands(
+    n: Tally,
+    tags: &[u16],
+    words: &[u64],
+    heads: &[u64],
+    accs: &[u64],
+    image: &[u8],
+) -> bool
+    ensures { λ r. ⌜ r ≡ Tests.vacantStands n (now (tags .entry)) (now (words .entry)) (now (heads .entry)) (now (accs .entry)) (now (image .entry)) ⌝ }
+{
+    if !is_idle(n) {
+        return false;
+    }
+    parts_bare(tags, words, heads, accs, image)
 }
 
 // Each part has its length.

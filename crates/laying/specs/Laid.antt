@@ -45,6 +45,9 @@ pub record Parts : Type 0 where
   pub accs : List ℕ
   pub image : List ℕ
 
+abbrev pub parts : List ℕ → List ℕ → List ℕ → List ℕ → List ℕ → List ℕ → Parts
+parts book tags words heads accs image = record { book = book; tags = tags; words = words; heads = heads; accs = accs; image = image }
+
 unfoldable pub laidClaim : Claim → Parts
 laidClaim c =
     record {

@@ -7,10 +7,10 @@ use borrow.Author.Tests.{eq-eqb, ne-eqb}
 use Rattle.image.specs.Records.{inputs}
 use Rattle.lent.specs.Runs.{wiped, overlaid}
 use Rattle.threads.specs.Row.{Row, row}
-use Rattle.laying.specs.Laid.{Parts}
+use Rattle.laying.specs.Laid.{Parts, parts}
 use Rattle.lodging.specs.declared.Judged.{Judged}
 use Rattle.lodging.specs.declared.Judged.the-variants.{Fits, Turned}
-use Rattle.lodging.specs.Lodged.{parts, bookFor, judged, Cells, cells, filledWith, rooted, lodged, Loaded, loaded, loadedBy, loadOn, emptied, cleared, clearOn}
+use Rattle.lodging.specs.Lodged.{bookFor, judged, Cells, cells, filledWith, rooted, lodged, Loaded, loaded, loadedBy, loadOn, emptied, cleared, clearOn}
 
 abbrev together : List ℕ → Cells → Row → List ℕ → Loaded
 together book c r image = loaded 0 0 (parts book (c .tags) (c .words) (r .heads) (r .accs) image)

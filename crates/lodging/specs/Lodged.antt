@@ -19,9 +19,6 @@ use Rattle.laying.specs.Laid.{Parts}
 use Rattle.lodging.specs.declared.Judged.{Judged}
 use Rattle.lodging.specs.declared.Judged.the-variants.{Fits, Turned}
 
-abbrev pub parts : List ℕ → List ℕ → List ℕ → List ℕ → List ℕ → List ℕ → Parts
-parts book tags words heads accs image = record { book = book; tags = tags; words = words; heads = heads; accs = accs; image = image }
-
 -- the book of a claim as it is before its first step: image length, start of the code, cells used, live threads
 unfoldable pub bookFor : ℕ → ℕ → ℕ → ℕ → List ℕ → List ℕ
 bookFor long code used live b = set (set (set (set (set (set (set b 2 long) 3 code) 4 used) 5 live) 6 0) 7 0) 8 0

@@ -18,6 +18,7 @@ ghost use mathlib.Core.Path.{_≡_};
 ghost use Prim.Native.Nat.{_%_};
 ghost use Rattle.image.specs.Records.{inputs};
 ghost use Rattle.threads.specs.Row.{row};
+ghost use Rattle.laying.specs.Laid.{parts};
 ghost use Rattle.lodging.specs.Lodged as Lodged;
 
 // What is known of an image before anything is written: what the reader says of it, or the number and the place that refuse it.
@@ -130,7 +131,7 @@ pub fn load_seat(
     start: u32,
     image: &[u8],
 ) -> Answer
-    ensures { λ r. ⌜ Lodged.loadOn start (now (image .entry)) (Lodged.parts (now (book .entry)) (now (tags .entry)) (now (words .entry)) (now (heads .entry)) (now (accs .entry)) (now (kept .entry))) ≡ Lodged.loaded (r .number) (r .place) (Lodged.parts (now (book .exit)) (now (tags .exit)) (now (words .exit)) (now (heads .exit)) (now (accs .exit)) (now (kept .exit))) ⌝ }
+    ensures { λ r. ⌜ Lodged.loadOn start (now (image .entry)) (parts (now (book .entry)) (now (tags .entry)) (now (words .entry)) (now (heads .entry)) (now (accs .entry)) (now (kept .entry))) ≡ Lodged.loaded (r .number) (r .place) (parts (now (book .exit)) (now (tags .exit)) (now (words .exit)) (now (heads .exit)) (now (accs .exit)) (now (kept .exit))) ⌝ }
 {
     match judge(&book[..], image) {
         Judged::Turned(number, place) => Answer { number, place },
@@ -155,7 +156,7 @@ pub fn clear_seat(
     accs: &mut [u64],
     kept: &mut [u8],
 ) -> u8
-    ensures { λ r. ⌜ Lodged.clearOn (Lodged.parts (now (book .entry)) (now (tags .entry)) (now (words .entry)) (now (heads .entry)) (now (accs .entry)) (now (kept .entry))) ≡ Lodged.cleared r (Lodged.parts (now (book .exit)) (now (tags .exit)) (now (words .exit)) (now (heads .exit)) (now (accs .exit)) (now (kept .exit))) ⌝ }
+    ensures { λ r. ⌜ Lodged.clearOn (parts (now (book .entry)) (now (tags .entry)) (now (words .entry)) (now (heads .entry)) (now (accs .entry)) (now (kept .entry))) ≡ Lodged.cleared r (parts (now (book .exit)) (now (tags .exit)) (now (words .exit)) (now (heads .exit)) (now (accs .exit)) (now (kept .exit))) ⌝ }
 {
     if get32(&book[..], 2) == 0 {
         return 35;

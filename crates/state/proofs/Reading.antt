@@ -21,6 +21,7 @@ use Rattle.laying.proofs.Fitting.{Fit, live-32}
 use Rattle.laying.proofs.Pairs.{zeros-are, zeros-pass}
 use Rattle.laying.proofs.Back.{laid-back, laid-well, back-laid}
 use Rattle.inspection.specs.Sound.{soundOn}
+use Rattle.inspection.specs.Tests.{partsBare}
 use Rattle.state.specs.State.{state, filled, Long, share, front, behind, claimsFrom, bare, fairAt, standFrom}
 use Rattle.state.proofs.Filled.{filled-front, filled-behind, filled-long, filled-back}
 use Rattle.state.proofs.Machines.{shareOf, Right, Seats, none, more, right-some, right-fits}
@@ -67,7 +68,7 @@ module _ (k r : ℕ) where
   }
 
   bare-none : bare (laidIn k r []) ≡ true
-  unfolding bare laidIn filled
+  unfolding bare partsBare laidIn filled
   bare-none =
       both (zeros-pass (k * 9)) (both (zeros-pass r) (both (zeros-pass r) (both (zeros-pass (k * 32)) (both (zeros-pass (k * 32)) (zeros-pass (k * 4096))))))
 
@@ -195,7 +196,7 @@ pub record Stood (k l r : ℕ) (p : Parts) : Type 0 where
 -- no seats
 module _ (k l r : ℕ) (p : Parts) (z : Long k r p) (e : bare p ≡ true) where
   laid-none : laidIn k r [] ≡ p
-  unfolding bare laidIn filled
+  unfolding bare partsBare laidIn filled
   laid-none =
       parted (all isZero (p .book)) _ e λ book e.
       parted (all isZero (p .tags)) _ e λ tags e.

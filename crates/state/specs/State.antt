@@ -12,9 +12,10 @@ use Rattle.rules.specs.Claim.{Claim}
 use Rattle.rules.specs.Calls.{Machine, fairShare}
 use Rattle.rules.specs.Sound.{sound}
 use Rattle.lent.specs.Runs.{isZero}
-use Rattle.laying.specs.Laid.{Parts, laidClaim}
+use Rattle.laying.specs.Laid.{Parts, parts, laidClaim}
 use Rattle.laying.specs.Back.{claimIn}
 use Rattle.inspection.specs.Sound.{soundOn}
+use Rattle.inspection.specs.Tests.{partsBare}
 use Rattle.state.specs.declared.whole.First.{First}
 use Rattle.state.specs.declared.whole.First.the-variants.{Ends, Seat}
 
@@ -23,7 +24,7 @@ abbrev pub State : Type 0
 State = Parts
 
 abbrev pub state : List ℕ → List ℕ → List ℕ → List ℕ → List ℕ → List ℕ → State
-state book tags words heads accs images = record { book = book; tags = tags; words = words; heads = heads; accs = accs; image = images }
+state book tags words heads accs images = parts book tags words heads accs images
 
 -- ---- claims written
 
@@ -98,9 +99,7 @@ pub record Ahead (l : ℕ) (p : Parts) : Type 0 where
 -- ---- soundness
 
 unfoldable pub bare : Parts → Bool
-bare p =
-    all isZero (p .book) && (all isZero (p .tags) && (all isZero (p .words)
-    && (all isZero (p .heads) && (all isZero (p .accs) && all isZero (p .image)))))
+bare p = all isZero (p .book) && partsBare (p .tags) (p .words) (p .heads) (p .accs) (p .image)
 
 -- "shares obey the limits": 2,048 cells in all, of which l are taken
 unfoldable pub fairAt : ℕ → Parts → Bool

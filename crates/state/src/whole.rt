@@ -2,10 +2,7 @@
 use crate::limits;
 use inspection::sound;
 use lent::get32;
-use lent::is_bare8;
-use lent::is_bare16;
 use lent::is_bare32;
-use lent::is_bare64;
 ghost use mathlib.Core.Path.{_≡_};
 ghost use Rattle.state.specs.State.{state, bare, firstIn, standFrom, stateSound, Ahead, Long};
 
@@ -28,19 +25,7 @@ fn all_bare(
     if !is_bare32(book) {
         return false;
     }
-    if !is_bare16(tags) {
-        return false;
-    }
-    if !is_bare64(words) {
-        return false;
-    }
-    if !is_bare64(heads) {
-        return false;
-    }
-    if !is_bare64(accs) {
-        return false;
-    }
-    is_bare8(images)
+    sound::parts_bare(tags, words, heads, accs, images)
 }
 
 // The first of the seats that are left, whose region starts at `start`.

@@ -31,14 +31,14 @@ use Rattle.soundness.proofs.Loads.{root-length}
 use Rattle.lent.specs.Runs.{wiped, overlaid}
 use Rattle.cells.specs.Lent.{kindBit, tagFor}
 use Rattle.threads.specs.Row.{Row}
-use Rattle.laying.specs.Laid.{spread, cellTag, cellWord, placeNumber, headNumber, accNumber, laidBook, laidClaim}
+use Rattle.laying.specs.Laid.{spread, cellTag, cellWord, placeNumber, headNumber, accNumber, laidBook, laidClaim, parts}
 use Rattle.laying.proofs.Spread.{length-spread, spread-nil, spread-add, spread-still, spread-over}
 use Rattle.laying.proofs.Fitting.{live-32}
 use Rattle.laying.proofs.Pairs.{map-same}
 use Rattle.laying.proofs.Rows.{laidRow, row-add}
 use Rattle.laying.proofs.Fits.{Seated, fits, none-is}
 use Rattle.lodging.specs.declared.Judged.the-variants as Judged
-use Rattle.lodging.specs.Lodged.{parts, bookFor, judgedBy, judged, Cells, cells, filledWith, rooted, lodged, Loaded, loaded, loadedBy, loadOn, emptied, Cleared, cleared, clearOn}
+use Rattle.lodging.specs.Lodged.{bookFor, judgedBy, judged, Cells, cells, filledWith, rooted, lodged, Loaded, loaded, loadedBy, loadOn, emptied, Cleared, cleared, clearOn}
 use Rattle.tying.proofs.Turns.{none-length}
 
 -- a load and a clearing of the rules, laid out

@@ -1,6 +1,6 @@
 -- `lodging::clear_seat` meets its contract: a vacant seat is left as it is, and of any other all but the shares is wiped. Assumes nothing.
 use borrow.Author.Needs.{needs}
-use Rattle.lodging.specs.Lodged.{parts}
+use Rattle.laying.specs.Laid.{parts}
 use Rattle.lodging.proofs.Lodgings.{left-vacant, emptied-out}
 use Rattle.lodging.proofs.clear_seat.Statement.{statement}
 use Rattle.lodging.proofs.clear_seat.Tie as tie

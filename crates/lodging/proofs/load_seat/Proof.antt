@@ -1,6 +1,6 @@
 -- `lodging::load_seat` meets its contract: the image is judged, and what fits is written to each part by one call. Assumes nothing.
 use borrow.Author.Needs.{needs}
-use Rattle.lodging.specs.Lodged.{parts}
+use Rattle.laying.specs.Laid.{parts}
 use Rattle.lodging.proofs.Lodgings.{turned-away, lodged-in}
 use Rattle.lodging.proofs.load_seat.Statement.{statement}
 use Rattle.lodging.proofs.load_seat.Tie as tie
