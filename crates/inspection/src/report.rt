@@ -1,4 +1,5 @@
 // One seat's report.
+use crate::sound;
 use lent::get64;
 use rules::Outcome;
 use rules::Report;
@@ -8,7 +9,7 @@ use seat::book;
 use seat::book::Tally;
 use threads::Found;
 ghost use mathlib.Core.Path.{_≡_};
-ghost use Prim.Native.Nat.{_/_, _%_};
+ghost use Prim.Native.Nat.{_%_};
 ghost use Rattle.inspection.specs.Report.{standing, statusIn, outcomeIn, positionIn, reportBy, reportOn};
 
 fn standing_of(n: Tally, f: Found) -> Status
@@ -47,12 +48,6 @@ fn outcome_of(s: Slot) -> Outcome
     }
 }
 
-fn position_in(head: u64) -> u16
-    ensures { λ r. ⌜ r ≡ head / 65536 % 65536 ⌝ }
-{
-    (head / 65536 % 65536) as u16
-}
-
 fn position_of(n: Tally, heads: &[u64]) -> u16
     ensures { λ r. ⌜ r ≡ positionIn n (now (heads .entry)) ⌝ }
 {
@@ -60,7 +55,7 @@ fn position_of(n: Tally, heads: &[u64]) -> u16
         return 0;
     }
     let halted = n.halted;
-    position_in(get64(heads, halted as usize))
+    sound::position_of(get64(heads, halted as usize))
 }
 
 fn low8(x: u32) -> u8

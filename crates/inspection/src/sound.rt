@@ -118,7 +118,8 @@ fn place_of(head: u64) -> u16
     (head % 65536) as u16
 }
 
-fn position_of(head: u64) -> u16
+// A head's position.
+pub fn position_of(head: u64) -> u16
     ensures { λ r. ⌜ r ≡ head / 65536 % 65536 ⌝ }
 {
     (head / 65536 % 65536) as u16

@@ -126,61 +126,35 @@ pub struct Seen {
     pub heads: [u64; 3],
 }
 
-// Opens, loads seat 1 if it is given an image, loads seat 0, runs and reports on seat 0.
+// Opens, loads seat 1, if there is one, loads seat 0, runs and reports on seat 0. The six buffers go by their first letters.
 fn played(shares: &[u32], neighbour: &[u8], image: &[u8], schedule: &[u8]) -> Seen {
-    let mut book = [0u32; 72];
-    let mut tags = [0u16; 2048];
-    let mut words = [0u64; 2048];
-    let mut heads = [0u64; 256];
-    let mut accs = [0u64; 256];
-    let mut images = [0u8; 32768];
+    let mut b = [0u32; 72];
+    let mut t = [0u16; 2048];
+    let mut w = [0u64; 2048];
+    let mut h = [0u64; 256];
+    let mut a = [0u64; 256];
+    let mut i = [0u8; 32768];
     let mut answers = [255u8; 8];
-    opening::open(
-        &mut book,
-        &mut tags,
-        &mut words,
-        &mut heads,
-        &mut accs,
-        &mut images,
-        shares,
-    );
-    loading::load(
-        &mut book,
-        &mut tags,
-        &mut words,
-        &mut heads,
-        &mut accs,
-        &mut images,
-        1,
-        neighbour,
-    );
-    let loaded = loading::load(
-        &mut book,
-        &mut tags,
-        &mut words,
-        &mut heads,
-        &mut accs,
-        &mut images,
-        0,
-        image,
-    );
+    opening::open(&mut b, &mut t, &mut w, &mut h, &mut a, &mut i, shares);
+    loading::load(&mut b, &mut t, &mut w, &mut h, &mut a, &mut i, 1, neighbour);
+    let loaded = loading::load(&mut b, &mut t, &mut w, &mut h, &mut a, &mut i, 0, image);
     let ran = running::run(
-        &mut book,
-        &mut tags,
-        &mut words,
-        &mut heads,
-        &mut accs,
-        &images,
+        &mut b,
+        &mut t,
+        &mut w,
+        &mut h,
+        &mut a,
+        &i,
         schedule,
         &mut answers,
     );
-    let shown = reporting::report(&book, &tags, &words, &heads, &accs, &images, 0);
+    let shown = reporting::report(&b, &t, &w, &h, &a, &i, 0);
     Seen {
         loaded,
         ran,
         answers,
         shown,
-        heads: [heads[0], heads[1], heads[2]],
+        heads: [h[0], h[1], h[2]],
     }
 }
 

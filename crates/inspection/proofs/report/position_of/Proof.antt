@@ -16,13 +16,13 @@ cast-get64 c = search needs
 get64-requires : tie.Need-get64-requires
 get64-requires c κs = search needs
 
-position-in-requires : tie.Need-position-in-requires
-position-in-requires c κs = search needs
+position-of-requires : tie.Need-position-of-requires
+position-of-requires c κs = search needs
 
 returns-2 : tie.Need-returns-2
 unfolding positionIn
-returns-2 c = rw (ne-eqb _ _ (c .before .before .if1 .left)) (c .position-in .ensures ∙ rw (c .before .get64 .ensures))
+returns-2 c = rw (ne-eqb _ _ (c .before .before .if1 .left)) (c .position-of .ensures ∙ rw (c .before .get64 .ensures))
 
 pub position-of-spec : {M : Type 1} → statement M
 position-of-spec =
-    tie.close (tie.spec returns cast-get64 get64-requires position-in-requires returns-2)
+    tie.close (tie.spec returns cast-get64 get64-requires position-of-requires returns-2)
