@@ -1,4 +1,6 @@
-// One seat's parts, worked out by hand from docs/STATE.md, each damaged in one clause of soundness: the code refuses them and takes their sound twins.
+// One seat's parts, worked out by hand from docs/STATE.md, each damaged by one change: the code refuses them and takes their sound twins.
+// Most break one clause of soundness only. A number that several clauses speak of breaks them all: a share, more cells or threads than there is room for,
+// a bad image, whose code has no start, and a thread of a vacant seat.
 use inspection::sound;
 use lent::copy8;
 use lines::line;
@@ -192,6 +194,13 @@ fn taking_refused() -> Seat {
     s
 }
 
+// A claim whose one cell is empty, and no thread left.
+fn spent() -> Seat {
+    let mut s = with_image(vacant(), b"\x80\x01\x85\x00");
+    s.book = [8, 4, 4, 3, 1, 0, 0, 0, 1];
+    s
+}
+
 // A claim of one cell that holds 1.5, an M-cell, and no thread left.
 fn finished() -> Seat {
     let mut s = with_image(vacant(), b"\x80\x01\x85\x00");
@@ -286,7 +295,7 @@ fn books() {
     in_book(b"image over the limit", s, 2, 4097);
     in_book(b"code starts too early", s, 3, 20);
     in_book(b"code starts too late", s, 3, 24);
-    in_book(b"fewer cells than slots", s, 4, 2);
+    in_book(b"fewer cells than slots", spent(), 4, 0);
     in_book(b"more cells than the share", s, 4, 9);
     in_book(b"a thread not counted", s, 5, 0);
     in_book(b"a thread too many", s, 5, 2);
