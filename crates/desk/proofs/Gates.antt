@@ -8,7 +8,7 @@ use Rattle.rules.specs.Calls.{clears, blank}
 use Rattle.state.specs.State.{State, machineOf, stateSound, claimsOf}
 use Rattle.machine.specs.Calls.{Moved, moved, saidTo, clearWith, clearCall, Loaded, loaded, loadedIn, loadWith, loadCall, Shown, shown, shownIn, reportWith, reportCall}
 
--- "32: unsound state"
+-- "32: lent state unsound"
 module _ (s : State) (k : ℕ) (u : stateSound s ≡ false) where
   pub clear-refused : clearCall s k ≡ moved 32 s
   unfolding clearCall claimsOf clearWith

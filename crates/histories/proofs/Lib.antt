@@ -2,6 +2,7 @@ pub mod Unique
 pub mod Ends
 pub mod Claims
 pub mod Retold
+pub mod Refused
 pub mod Lasting
 pub mod Logs
 pub mod Isolation

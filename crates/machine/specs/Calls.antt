@@ -104,7 +104,7 @@ unfoldable pub loadedIn : Machine → State → ℕ → List ℕ → Loaded
 loadedIn m s k image =
     loaded (numberIn (tell m (message k (loads image)) .reply)) (placeIn (tell m (message k (loads image)) .reply)) (laid (tell m (message k (loads image)) .machine) s)
 
--- "32, 20, 21, 22, 23 with place, 24"
+-- "Number 32 comes first in load, run, report and clear, the others in numerical order."
 unfoldable pub loadWith : Option Machine → State → ℕ → List ℕ → Loaded
 loadWith none s k image = loaded 32 0 s
 loadWith (some m) s k image = loadedIn m s k image
