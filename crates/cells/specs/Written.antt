@@ -18,19 +18,19 @@ setBelow n i v s = if ltb i n then set s i v else s
 unfoldable pub tagsAfter : Effect → ℕ → ℕ → List ℕ → List ℕ
 tagsAfter (Goes t) used start s = s
 tagsAfter Ends used start s = s
-tagsAfter (Waits l t) used start s = s
-tagsAfter (Fills k l v t) used start s = setBelow used (l - start) (tagFor k v) s
-tagsAfter (Empties l t) used start s = setBelow used (l - start) (kindBit Mcell) s
-tagsAfter (Makes k n t) used start s = filledFrom used n (kindBit k) s
-tagsAfter (Spawns new t) used start s = s
+tagsAfter (Waits t l) used start s = s
+tagsAfter (Fills t k l v) used start s = setBelow used (l - start) (tagFor k v) s
+tagsAfter (Empties t l) used start s = setBelow used (l - start) (kindBit Mcell) s
+tagsAfter (Makes t k n) used start s = filledFrom used n (kindBit k) s
+tagsAfter (Spawns t new) used start s = s
 tagsAfter (Refuses n) used start s = s
 
 unfoldable pub wordsAfter : Effect → ℕ → ℕ → List ℕ → List ℕ
 wordsAfter (Goes t) used start s = s
 wordsAfter Ends used start s = s
-wordsAfter (Waits l t) used start s = s
-wordsAfter (Fills k l v t) used start s = setBelow used (l - start) (wordOf v) s
-wordsAfter (Empties l t) used start s = setBelow used (l - start) 0 s
-wordsAfter (Makes k n t) used start s = s
-wordsAfter (Spawns new t) used start s = s
+wordsAfter (Waits t l) used start s = s
+wordsAfter (Fills t k l v) used start s = setBelow used (l - start) (wordOf v) s
+wordsAfter (Empties t l) used start s = setBelow used (l - start) 0 s
+wordsAfter (Makes t k n) used start s = s
+wordsAfter (Spawns t new) used start s = s
 wordsAfter (Refuses n) used start s = s

@@ -3,7 +3,6 @@ use lent::fill16;
 use lent::get16;
 use lent::put16;
 use lent::put64;
-use rules::Effect;
 use rules::Kind;
 use rules::Slot;
 use value::Value;
@@ -13,7 +12,9 @@ ghost use mathlib.Core.Path.{_≡_};
 ghost use Prim.Native.Nat.{_-_};
 ghost use Rattle.value.specs.Coding.{wordOf};
 ghost use Rattle.cells.specs.Lent.{kindBit, kindIn, tagFor, filled, slotAt, lookOn, freshOn};
-ghost use Rattle.cells.specs.Written.{setBelow, tagsAfter, wordsAfter};
+ghost use Rattle.rules.specs.declared.Kind.the-variants.{Mcell};
+ghost use Rattle.lent.specs.Runs.{filledFrom};
+ghost use Rattle.cells.specs.Written.{setBelow};
 
 fn kind_in(tag: u16) -> Kind
     ensures { λ r. ⌜ r ≡ kindIn tag ⌝ }
@@ -99,50 +100,40 @@ fn past(l: usize, start: u32) -> usize
     if first <= l { l - first } else { 0 }
 }
 
-fn put16_below(n: u32, s: &mut [u16], i: usize, v: u16)
-    ensures { λ _. ⌜ now (s .exit) ≡ setBelow n i v (now (s .entry)) ⌝ }
+fn put_below(n: u32, tags: &mut [u16], words: &mut [u64], i: usize, tag: u16, word: u64)
+    ensures { λ _. ⌜ (now (tags .exit) ≡ setBelow n i tag (now (tags .entry))) × (now (words .exit) ≡ setBelow n i word (now (words .entry))) ⌝ }
 {
     if n as usize <= i {
         return;
     }
-    put16(s, i, v);
+    put16(tags, i, tag);
+    put64(words, i, word);
 }
 
-fn put64_below(n: u32, s: &mut [u64], i: usize, v: u64)
-    ensures { λ _. ⌜ now (s .exit) ≡ setBelow n i v (now (s .entry)) ⌝ }
+// The cell at a location takes a value.
+pub fn fill(tags: &mut [u16], words: &mut [u64], used: u32, start: u32, k: Kind, l: usize, v: Value)
+    ensures { λ _. ⌜ (now (tags .exit) ≡ setBelow used (l - start) (tagFor k v) (now (tags .entry))) × (now (words .exit) ≡ setBelow used (l - start) (wordOf v) (now (words .entry))) ⌝ }
 {
-    if n as usize <= i {
-        return;
-    }
-    put64(s, i, v);
+    put_below(
+        used,
+        tags,
+        words,
+        past(l, start),
+        tag_for(k, v),
+        word_for(v),
+    );
 }
 
-pub fn write_tags(tags: &mut [u16], e: Effect, used: u32, start: u32)
-    ensures { λ _. ⌜ now (tags .exit) ≡ tagsAfter e used start (now (tags .entry)) ⌝ }
+// The M-cell at a location gives its value away.
+pub fn empty(tags: &mut [u16], words: &mut [u64], used: u32, start: u32, l: usize)
+    ensures { λ _. ⌜ (now (tags .exit) ≡ setBelow used (l - start) (kindBit Mcell) (now (tags .entry))) × (now (words .exit) ≡ setBelow used (l - start) 0 (now (words .entry))) ⌝ }
 {
-    match e {
-        Effect::Fills(k, l, v, _) => put16_below(used, tags, past(l, start), tag_for(k, v)),
-        Effect::Empties(l, _) => put16_below(used, tags, past(l, start), 8),
-        Effect::Makes(k, n, _) => fill16(tags, used, n, kind_bit(k)),
-        Effect::Goes(_) => {}
-        Effect::Ends => {}
-        Effect::Waits(_, _) => {}
-        Effect::Spawns(_, _) => {}
-        Effect::Refuses(_) => {}
-    }
+    put_below(used, tags, words, past(l, start), 8, 0);
 }
 
-pub fn write_words(words: &mut [u64], e: Effect, used: u32, start: u32)
-    ensures { λ _. ⌜ now (words .exit) ≡ wordsAfter e used start (now (words .entry)) ⌝ }
+// Empty cells, made behind the used ones: their words are 0 already.
+pub fn make(tags: &mut [u16], used: u32, k: Kind, n: u16)
+    ensures { λ _. ⌜ now (tags .exit) ≡ filledFrom used n (kindBit k) (now (tags .entry)) ⌝ }
 {
-    match e {
-        Effect::Fills(_, l, v, _) => put64_below(used, words, past(l, start), word_for(v)),
-        Effect::Empties(l, _) => put64_below(used, words, past(l, start), 0),
-        Effect::Makes(_, _, _) => {}
-        Effect::Goes(_) => {}
-        Effect::Ends => {}
-        Effect::Waits(_, _) => {}
-        Effect::Spawns(_, _) => {}
-        Effect::Refuses(_) => {}
-    }
+    fill16(tags, used, n, kind_bit(k));
 }

@@ -77,20 +77,20 @@ fn touch(tags: &[u16], words: &[u64], at: Standing, s: u8) -> Effect
         cell_at(tags, words, at.used, at.start, frame, s),
     ) {
         Held::Holds(_) => with_acc(at, Value::Nil),
-        Held::Lacks => Effect::Waits(l, moved_to(at.after, th, Value::Nil)),
+        Held::Lacks => Effect::Waits(moved_to(at.after, th, Value::Nil), l),
         Held::Refused(n) => Effect::Refuses(n),
     }
 }
 
 // STORE, PUT, ISTORE and MSTORE, by what the cell at l holds.
 fn store_into(kind: Kind, l: usize, v: Value, at: Standing, h: Held) -> Effect
-    ensures { λ r. ⌜ r ≡ ifEmpty (Fills kind l v (thread (at .after) (at .thread .frame) (at .thread .acc))) h ⌝ }
+    ensures { λ r. ⌜ r ≡ ifEmpty (Fills (thread (at .after) (at .thread .frame) (at .thread .acc)) kind l v) h ⌝ }
 {
     let th = at.thread;
     let acc = th.acc;
     match h {
         Held::Holds(_) => Effect::Refuses(CELL_FULL),
-        Held::Lacks => Effect::Fills(kind, l, v, moved_to(at.after, th, acc)),
+        Held::Lacks => Effect::Fills(moved_to(at.after, th, acc), kind, l, v),
         Held::Refused(n) => Effect::Refuses(n),
     }
 }
@@ -140,15 +140,15 @@ fn store_at(tags: &[u16], words: &[u64], at: Standing, kind: Kind, s: u8, t: u8)
 
 // IFETCH, GET and MFETCH, by what the cell at l holds, whatever else the thread may see.
 fn fetch_from(kind: Kind, l: usize, at: Standing, h: Held) -> Effect
-    ensures { λ r. ⌜ ((see : View) → r ≡ ifFull (gives (at .after) see (at .thread) kind l) (Waits l (again (at .after) see (at .thread))) h) ⌝ }
+    ensures { λ r. ⌜ ((see : View) → r ≡ ifFull (gives (at .after) see (at .thread) kind l) (Waits (again (at .after) see (at .thread)) l) h) ⌝ }
 {
     let th = at.thread;
     match h {
         Held::Holds(v) => match kind {
             Kind::Icell => with_acc(at, v),
-            Kind::Mcell => Effect::Empties(l, moved_to(at.after, th, v)),
+            Kind::Mcell => Effect::Empties(moved_to(at.after, th, v), l),
         },
-        Held::Lacks => Effect::Waits(l, moved_to(th.position, th, Value::Nil)),
+        Held::Lacks => Effect::Waits(moved_to(th.position, th, Value::Nil), l),
         Held::Refused(n) => Effect::Refuses(n),
     }
 }
@@ -166,11 +166,11 @@ fn fetch(tags: &[u16], words: &[u64], at: Standing, kind: Kind, s: u8, k: u8) ->
 }
 
 fn make(at: Standing, kind: Kind, n: u16) -> Effect
-    ensures { λ r. ⌜ r ≡ Makes kind n (thread (at .after) (at .thread .frame) (Location (freshOn (at .used) (at .start)))) ⌝ }
+    ensures { λ r. ⌜ r ≡ Makes (thread (at .after) (at .thread .frame) (Location (freshOn (at .used) (at .start)))) kind n ⌝ }
 {
     let th = at.thread;
     let l = cells::fresh(at.used, at.start);
-    Effect::Makes(kind, n, moved_to(at.after, th, Value::Location(l)))
+    Effect::Makes(moved_to(at.after, th, Value::Location(l)), kind, n)
 }
 
 fn allocate(tags: &[u16], words: &[u64], at: Standing, kind: Kind, s: u8) -> Effect
@@ -183,7 +183,7 @@ fn allocate(tags: &[u16], words: &[u64], at: Standing, kind: Kind, s: u8) -> Eff
 }
 
 fn spawn(at: Standing, a: u16, frame: u16) -> Effect
-    ensures { λ r. ⌜ r ≡ Spawns (thread a frame Nil) (thread (at .after) (at .thread .frame) (at .thread .acc)) ⌝ }
+    ensures { λ r. ⌜ r ≡ Spawns (thread (at .after) (at .thread .frame) (at .thread .acc)) (thread a frame Nil) ⌝ }
 {
     let th = at.thread;
     let acc = th.acc;
@@ -192,7 +192,7 @@ fn spawn(at: Standing, a: u16, frame: u16) -> Effect
         frame,
         acc: Value::Nil,
     };
-    Effect::Spawns(new, moved_to(at.after, th, acc))
+    Effect::Spawns(moved_to(at.after, th, acc), new)
 }
 
 fn apply(tags: &[u16], words: &[u64], at: Standing, a: u16, s: u8) -> Effect

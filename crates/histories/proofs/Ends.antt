@@ -52,11 +52,11 @@ effect-not-32 : (e : Effect) → eqb (answerOf e) 32 ≡ false
 unfolding answerOf
 effect-not-32 (Goes t) = refl
 effect-not-32 Ends = refl
-effect-not-32 (Waits l t) = refl
-effect-not-32 (Fills k l v t) = refl
-effect-not-32 (Empties l t) = refl
-effect-not-32 (Makes k n t) = refl
-effect-not-32 (Spawns new t) = refl
+effect-not-32 (Waits t l) = refl
+effect-not-32 (Fills t k l v) = refl
+effect-not-32 (Empties t l) = refl
+effect-not-32 (Makes t k n) = refl
+effect-not-32 (Spawns t new) = refl
 effect-not-32 (Refuses n) = refl
 
 abbrev TurnedNot32 : Turned → Type 0

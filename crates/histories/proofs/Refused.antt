@@ -1,12 +1,13 @@
 -- "Refused calls leave every lent byte": from any bytes, a call that does not answer 0 leaves each buffer as it was. Assumes nothing.
-use Prim.Native.Nat.{ℕ, zero, suc}
+use Prim.Native.Nat.{ℕ}
 use mathlib.Core.Path.{_≡_, refl, sym, ap, _∙_}
 use mathlib.Core.Bool.{true, false}
-use mathlib.Core.List.{List, [], _∷_}
+use mathlib.Core.List.{List}
 use lib.Dec.{ltb, eqb}
-use lib.ListN.{length, getD, set}
+use lib.ListN.{length}
 use Rattle.laws.proofs.Absurd.{clash}
 use Rattle.laws.proofs.Choice.{tested}
+use Rattle.lent.proofs.Kept.{set-same}
 use Rattle.rules.specs.Calls.{Machine, claimAt, Event, loads, clears, Reply, number, placed, told, message, tell}
 use Rattle.rules.specs.Events.{replied, changes}
 use Rattle.rules.proofs.Steps.{hear-still}
@@ -14,12 +15,6 @@ use Rattle.state.specs.State.{State, laid, machineOf, stateSound, claimsOf}
 use Rattle.state.proofs.Stands.{sound-stands}
 use Rattle.machine.specs.Calls.{numberIn, Moved, Ran, openCall, ranOn, runWith, runCall, saidTo, clearWith, clearCall, loadedIn, loadWith, loadCall}
 use Rattle.histories.proofs.Ends.{Opens, open-ends, Runs, run-ends, load-ends, clear-ends}
-
--- an element written over itself
-set-same : {A : Type 0} (xs : List A) (i : ℕ) (d : A) → set xs i (getD xs i d) ≡ xs
-set-same [] i d = refl
-set-same (x ∷ xs) zero d = refl
-set-same (x ∷ xs) (suc i) d = ap (λ (ys : List _). x ∷ ys) (set-same xs i d)
 
 same-number : (r : Reply) → numberIn r ≡ replied r
 unfolding numberIn replied

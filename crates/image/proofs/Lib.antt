@@ -1,5 +1,6 @@
 pub mod Places
 pub mod Steps
+pub mod Strides
 pub mod Fuel
 pub mod Marks
 pub mod Ways

@@ -1,9 +1,10 @@
 -- What one record at a place says, of the code or before it. Assumes nothing.
 use Prim.Native.Nat.{ℕ, _+_, _-_, _<_, _≤_}
 use native.Mathlib.Omega.{arith}
-use mathlib.Core.Path.{_≡_}
+use mathlib.Core.Path.{_≡_, sym, ap, _∙_}
 use mathlib.Core.List.{List}
-use lib.ListN.{length, getD, take, drop}
+use lib.ListN.{length, getD, take, drop, length-drop}
+use lib.Seq.{take-length}
 use lib.Dec.{leb, ltb}
 use borrow.Author.Tests.{leb-true, lt-ltb, le-ltb, le-leb, lt-leb}
 use Rattle.laws.specs.Choice.{if_then_else_}
@@ -16,6 +17,7 @@ use Rattle.kinds.specs.declared.Meaning.the-variants.{Is, Broken}
 use Rattle.kinds.specs.declared.Record.{Record}
 use Rattle.kinds.specs.declared.Record.the-variants as R
 use Rattle.kinds.specs.Table.{Kind, instructionKind, recordKind}
+use Rattle.kinds.proofs.Front.{means-front}
 use Rattle.image.specs.declared.records.Step.the-variants as Step
 use Rattle.image.specs.declared.records.Head.the-variants as Head
 use Rattle.image.specs.Records.{behind, bodyAt, stepped, stepBy, stepAt, headed, headBy, headAt}
@@ -115,6 +117,15 @@ module _ (l : List ℕ) (at : ℕ) where
       pub step-there : (a : Meaning) → size < length l - at → a ≡ instructionKind (getD l at 0) .means (take (at + 1 + size - (at + 1)) (drop (at + 1) l)) → stepped a (at + 1 + size) ≡ stepAt l at
       unfolding stepAt stepBy
       step-there a g e = there instructionKind stepped Step.Bad Step.Ended l at size a z h g e
+
+      -- and as it hands on all that follows the kind
+      pub step-from : (a : Meaning) → size < length l - at → a ≡ instructionKind (getD l at 0) .means (take (length l - (at + 1)) (drop (at + 1) l)) → stepped a (at + 1 + size) ≡ stepAt l at
+      step-from a g e =
+          let k = getD l at 0 in
+          let rest = drop (at + 1) l in
+          let all : take (length l - (at + 1)) rest ≡ rest = rw (← length-drop (at + 1) l) (take-length rest) in
+          let n : instructionKind k .size ≡ at + 1 + size - (at + 1) = omega arith in
+          step-there a g (e ∙ ap (instructionKind k .means) all ∙ sym (means-front k rest) ∙ ap (λ (m : ℕ). instructionKind k .means (take m rest)) n)
 
     module _ (z : size ≡ recordKind (getD l at 0) .size) where
       pub head-cut : length l - at ≤ size → Head.Bad ≡ headAt l at

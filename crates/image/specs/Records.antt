@@ -9,9 +9,14 @@ use Rattle.kinds.specs.declared.Meaning.{Meaning}
 use Rattle.kinds.specs.declared.Meaning.the-variants.{Is, Broken}
 use Rattle.kinds.specs.declared.Record.{Record}
 use Rattle.kinds.specs.declared.Record.the-variants as R
+use Rattle.kinds.specs.declared.Flow.{Flow}
+use Rattle.kinds.specs.declared.Flow.the-variants.{On}
+use Rattle.kinds.specs.Flows.{flowOf}
 use Rattle.kinds.specs.Table.{Kind, instructionKind, recordKind}
 use Rattle.image.specs.declared.records.Step.{Step}
 use Rattle.image.specs.declared.records.Step.the-variants as Step
+use Rattle.image.specs.declared.records.Stride.{Stride}
+use Rattle.image.specs.declared.records.Stride.the-variants as Stride
 use Rattle.image.specs.declared.records.Head.{Head}
 use Rattle.image.specs.declared.records.Head.the-variants as Head
 use Rattle.image.specs.declared.records.Fetched.{Fetched}
@@ -36,6 +41,24 @@ stepBy k l at = if leb (behind k at) (length l) then stepped (k .means (bodyAt k
 
 unfoldable pub stepAt : List ℕ → ℕ → Step
 stepAt l at = if ltb at (length l) then stepBy (instructionKind (getD l at 0)) l at else Step.Ended
+
+-- the same without the instruction
+unfoldable pub strideOf : Step → Stride
+strideOf Step.Ended = Stride.Ended
+strideOf Step.Bad = Stride.Bad
+strideOf (Step.Next i m) = Stride.Next m
+
+unfoldable pub strideAt : List ℕ → ℕ → Stride
+strideAt l at = strideOf (stepAt l at)
+
+-- where a thread may go from the instruction at a place; on, where there is none
+unfoldable pub flowIn : Step → Flow
+flowIn Step.Ended = On
+flowIn Step.Bad = On
+flowIn (Step.Next i m) = flowOf i
+
+unfoldable pub flowAt : List ℕ → ℕ → Flow
+flowAt l at = flowIn (stepAt l at)
 
 -- the instruction at a position of the code, which "positions count from its own start", with the position behind it
 unfoldable pub fetchedBy : ℕ → Step → Fetched

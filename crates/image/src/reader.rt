@@ -1,7 +1,7 @@
 // The reader: the first fault of an image, or what it promises.
 use crate::records;
 use crate::records::Head;
-use crate::records::Step;
+use crate::records::Stride;
 use crate::starts;
 use crate::starts::Fault;
 use kinds::Flow;
@@ -39,11 +39,11 @@ fn walk_code(image: &[u8], code: usize) -> Fault
     let mut end = Fault::At(image.len());
     let mut at = code;
     loop {
-        match records::step_at(image, at) {
-            Step::Ended => return end,
-            Step::Bad => return Fault::At(at),
-            Step::Next(i, behind) => {
-                end = ending_at(kinds::flow_of(i), at);
+        match records::stride_at(image, at) {
+            Stride::Ended => return end,
+            Stride::Bad => return Fault::At(at),
+            Stride::Next(behind) => {
+                end = ending_at(records::flow_at(image, at), at);
                 at = behind;
             }
         }

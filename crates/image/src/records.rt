@@ -1,17 +1,25 @@
 // One record of an image, at a place.
+use kinds::Flow;
 use kinds::Instruction;
 use kinds::Meaning;
 use kinds::Record;
 use value::Value;
 ghost use mathlib.Core.Path.{_≡_};
 ghost use Prim.Native.Nat.{_+_};
-ghost use Rattle.image.specs.Records.{stepAt, headAt, fetchedAt};
+ghost use Rattle.image.specs.Records.{stepAt, strideAt, flowAt, headAt, fetchedAt};
 
 // What stands at a place of the code: nothing, no whole instruction, or one, with the place behind it.
 pub enum Step {
     Ended,
     Bad,
     Next(Instruction, usize),
+}
+
+// The same without the instruction.
+pub enum Stride {
+    Ended,
+    Bad,
+    Next(usize),
 }
 
 // The same before the code: nothing, no good record, or one, with the place behind it.
@@ -42,9 +50,46 @@ pub fn step_at(image: &[u8], at: usize) -> Step
     }
     let body = at + 1;
     let behind = body + size;
-    match kinds::instruction_meant(kind, &image[body..behind]) {
+    match kinds::instruction_meant(kind, &image[body..]) {
         Meaning::Is(i) => Step::Next(i, behind),
         Meaning::Broken => Step::Bad,
+    }
+}
+
+// As `step_at`, for walks that need no instruction.
+pub fn stride_at(image: &[u8], at: usize) -> Stride
+    ensures { λ r. ⌜ r ≡ strideAt (now (image .entry)) at ⌝ }
+{
+    if image.len() <= at {
+        return Stride::Ended;
+    }
+    let kind = image[at];
+    let bytes = kinds::instruction_size(kind);
+    if image.len() - at <= bytes {
+        return Stride::Bad;
+    }
+    let body = at + 1;
+    let behind = body + bytes;
+    if kinds::is_meant(kind, &image[body..behind]) {
+        return Stride::Next(behind);
+    }
+    Stride::Bad
+}
+
+// Where a thread may go from the instruction at a place; on, where there is none. Only END, SWITCH, SPAWN and APPLY are made for it.
+pub fn flow_at(image: &[u8], at: usize) -> Flow
+    ensures { λ r. ⌜ r ≡ flowAt (now (image .entry)) at ⌝ }
+{
+    if image.len() <= at {
+        return Flow::On;
+    }
+    match image[at] {
+        0x00 | 0x17..=0x19 => match step_at(image, at) {
+            Step::Ended => Flow::On,
+            Step::Bad => Flow::On,
+            Step::Next(i, _) => kinds::flow_of(i),
+        },
+        _ => Flow::On,
     }
 }
 

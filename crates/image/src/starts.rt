@@ -1,6 +1,6 @@
 // The starts of instructions, and the first instruction that aims at anything else.
 use crate::records;
-use crate::records::Step;
+use crate::records::Stride;
 use kinds::Flow;
 ghost use mathlib.Core.Path.{_≡_};
 ghost use Prim.Native.Nat.{suc, _≤_};
@@ -22,10 +22,10 @@ pub fn is_start(image: &[u8], code: u32, position: u16) -> bool
     let mut at = code as usize;
     let place = at + (position as usize);
     loop {
-        match records::step_at(image, at) {
-            Step::Ended => return false,
-            Step::Bad => return false,
-            Step::Next(_, behind) => {
+        match records::stride_at(image, at) {
+            Stride::Ended => return false,
+            Stride::Bad => return false,
+            Stride::Next(behind) => {
                 if at == place {
                     return true;
                 }
@@ -43,10 +43,10 @@ fn marks_of(image: &[u8], code: usize) -> [u8; 4096]
     let mut row = [0u8; 4096];
     let mut at = code;
     loop {
-        match records::step_at(image, at) {
-            Step::Ended => return row,
-            Step::Bad => return row,
-            Step::Next(_, behind) => {
+        match records::stride_at(image, at) {
+            Stride::Ended => return row,
+            Stride::Bad => return row,
+            Stride::Next(behind) => {
                 row[at] = 1;
                 at = behind;
             }
@@ -92,11 +92,11 @@ pub fn first_astray(image: &[u8], code: usize) -> Fault
     let row = marks_of(image, code);
     let mut at = code;
     loop {
-        match records::step_at(image, at) {
-            Step::Ended => return Fault::Nowhere,
-            Step::Bad => return Fault::Nowhere,
-            Step::Next(i, behind) => {
-                if targets_marked(&row, code, kinds::flow_of(i)) {
+        match records::stride_at(image, at) {
+            Stride::Ended => return Fault::Nowhere,
+            Stride::Bad => return Fault::Nowhere,
+            Stride::Next(behind) => {
+                if targets_marked(&row, code, records::flow_at(image, at)) {
                     at = behind;
                 } else {
                     return Fault::At(at);

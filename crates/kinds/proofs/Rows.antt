@@ -15,7 +15,7 @@ use Rattle.kinds.specs.declared.Record.the-variants.{Wrong}
 use Rattle.kinds.specs.Table.{Kind, instructions, instructionKind, unknown, records, recordKind, strange}
 
 -- instructions
-after-instructions : (k : ℕ) → 28 ≤ k → unknown ≡ instructionKind k
+pub after-instructions : (k : ℕ) → 28 ≤ k → unknown ≡ instructionKind k
 unfolding instructionKind instructions
 after-instructions k h = sym (List·getD-eq-default instructions unknown h)
 

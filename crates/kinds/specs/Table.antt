@@ -1,6 +1,7 @@
 -- Document 01, "Images": the table of kinds. Each row has the paper's name, the length of the body and what the body means. Assumes nothing.
 use Prim.Native.Nat.{ℕ, _-_}
 use Prim.Native.String.{String}
+use mathlib.Core.Bool.{Bool, true, false}
 use mathlib.Core.List.{List, [], _∷_}
 use lib.ListN.{getD}
 use lib.Dec.{leb, eqb}
@@ -41,6 +42,11 @@ truthMeans byte = if leb byte 1 then Is (I.Bool (eqb byte 1)) else Broken
 
 unfoldable pub frameMeans : ℕ → Meaning
 frameMeans n = if leb 1 n then Is (I.Frame n) else Broken
+
+-- whether a body means an instruction
+unfoldable pub isMeant : Meaning → Bool
+isMeant (Is i) = true
+isMeant Broken = false
 
 -- "SWITCH s a b", "a, b two-byte positions"
 unfoldable pub switchMeans : List ℕ → Meaning

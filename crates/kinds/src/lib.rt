@@ -13,7 +13,7 @@ ghost use mathlib.Core.Path.{_≡_};
 ghost use Rattle.kinds.specs.declared.Instruction.the-variants.{Binary};
 ghost use Rattle.kinds.specs.declared.Meaning.the-variants.{Is};
 ghost use Rattle.kinds.specs.Flows.{flowOf};
-ghost use Rattle.kinds.specs.Table.{instructionKind, recordKind, floatMeans, truthMeans, frameMeans, switchMeans, slotsMeans, inputMeans};
+ghost use Rattle.kinds.specs.Table.{instructionKind, recordKind, isMeant, floatMeans, truthMeans, frameMeans, switchMeans, slotsMeans, inputMeans};
 
 // One instruction with its operands: slots s and t, numbers k and n, positions a and b.
 pub enum Instruction {
@@ -157,6 +157,22 @@ pub fn instruction_meant(kind: u8, body: &[u8]) -> Meaning
         0x1A => Meaning::Is(Instruction::Get { s, k: t }),
         0x1B => Meaning::Is(Instruction::Put { s, k: t }),
         _ => Meaning::Broken,
+    }
+}
+
+// Whether an instruction's body means anything. Only a FLOAT is made for it.
+pub fn is_meant(kind: u8, body: &[u8]) -> bool
+    ensures { λ r. ⌜ r ≡ isMeant (instructionKind kind .means (now (body .entry))) ⌝ }
+{
+    match kind {
+        0x02 => match instruction_meant(kind, body) {
+            Meaning::Is(_) => true,
+            Meaning::Broken => false,
+        },
+        0x03 => byte_at(body, 0) <= 1,
+        0x0E => 1 <= byte_at(body, 0),
+        0x00..=0x1B => true,
+        _ => false,
     }
 }
 

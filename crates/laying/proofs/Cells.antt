@@ -114,20 +114,20 @@ module _ (c : Claim) (f : Fit c) where
     unfolding tagsAfter perform put cellTag
     tags-same (Goes t) r = refl
     tags-same Ends r = refl
-    tags-same (Waits l t) r = refl
-    tags-same (Fills k l v t) r = spread-below cellTag (c .seat .cells) (c .cells) (l - c .seat .start) (full k v)
-    tags-same (Empties l t) r = spread-below cellTag (c .seat .cells) (c .cells) (l - c .seat .start) (empty Mcell)
-    tags-same (Makes k n t) r = spread-run cellTag (c .seat .cells) (c .cells) n (empty k) r
-    tags-same (Spawns new t) r = refl
+    tags-same (Waits t l) r = refl
+    tags-same (Fills t k l v) r = spread-below cellTag (c .seat .cells) (c .cells) (l - c .seat .start) (full k v)
+    tags-same (Empties t l) r = spread-below cellTag (c .seat .cells) (c .cells) (l - c .seat .start) (empty Mcell)
+    tags-same (Makes t k n) r = spread-run cellTag (c .seat .cells) (c .cells) n (empty k) r
+    tags-same (Spawns t new) r = refl
     tags-same (Refuses n) r = refl
 
     pub words-same : (e : Effect) → Roomy c e → wordsAfter e (length (c .cells)) (c .seat .start) Words ≡ spread cellWord (c .seat .cells) (perform e i c .cells)
     unfolding wordsAfter perform put cellWord
     words-same (Goes t) r = refl
     words-same Ends r = refl
-    words-same (Waits l t) r = refl
-    words-same (Fills k l v t) r = spread-below cellWord (c .seat .cells) (c .cells) (l - c .seat .start) (full k v)
-    words-same (Empties l t) r = spread-below cellWord (c .seat .cells) (c .cells) (l - c .seat .start) (empty Mcell)
-    words-same (Makes k n t) r = spread-still cellWord (c .seat .cells) (c .cells) n (empty k) refl r
-    words-same (Spawns new t) r = refl
+    words-same (Waits t l) r = refl
+    words-same (Fills t k l v) r = spread-below cellWord (c .seat .cells) (c .cells) (l - c .seat .start) (full k v)
+    words-same (Empties t l) r = spread-below cellWord (c .seat .cells) (c .cells) (l - c .seat .start) (empty Mcell)
+    words-same (Makes t k n) r = spread-still cellWord (c .seat .cells) (c .cells) n (empty k) refl r
+    words-same (Spawns t new) r = refl
     words-same (Refuses n) r = refl

@@ -48,11 +48,11 @@ pub record Fit (c : Claim) : Type 0 where
 abbrev pub Roomy : Claim → Effect → Type 0
 Roomy c (Goes t) = Unit {0}
 Roomy c Ends = Unit {0}
-Roomy c (Waits l t) = Unit {0}
-Roomy c (Fills k l v t) = Unit {0}
-Roomy c (Empties l t) = Unit {0}
-Roomy c (Makes k n t) = length (c .cells) + n ≤ c .seat .cells
-Roomy c (Spawns new t) = length (c .row) < c .seat .threads
+Roomy c (Waits t l) = Unit {0}
+Roomy c (Fills t k l v) = Unit {0}
+Roomy c (Empties t l) = Unit {0}
+Roomy c (Makes t k n) = length (c .cells) + n ≤ c .seat .cells
+Roomy c (Spawns t new) = length (c .row) < c .seat .threads
 Roomy c (Refuses n) = Unit {0}
 
 pub all-placed : (c : Claim) → Fit c → All Placed (c .row)
@@ -66,11 +66,11 @@ room-for : (c : Claim) → length (c .row) ≤ c .seat .threads → (e : Effect)
 unfolding room
 room-for c h (Goes t) = tt
 room-for c h Ends = tt
-room-for c h (Waits l t) = tt
-room-for c h (Fills k l v t) = tt
-room-for c h (Empties l t) = tt
-room-for c h (Makes k n t) = either-way (Roomy c) (leb (length (c .cells) + n) (c .seat .cells)) (λ e. leb-true _ _ e) (λ _. tt)
-room-for c h (Spawns new t) = either-way (Roomy c) (eqb (length (c .row)) (c .seat .threads)) (λ _. tt) (λ e. let n = eqb-false (length (c .row)) (c .seat .threads) e in omega arith)
+room-for c h (Waits t l) = tt
+room-for c h (Fills t k l v) = tt
+room-for c h (Empties t l) = tt
+room-for c h (Makes t k n) = either-way (Roomy c) (leb (length (c .cells) + n) (c .seat .cells)) (λ e. leb-true _ _ e) (λ _. tt)
+room-for c h (Spawns t new) = either-way (Roomy c) (eqb (length (c .row)) (c .seat .threads)) (λ _. tt) (λ e. let n = eqb-false (length (c .row)) (c .seat .threads) e in omega arith)
 room-for c h (Refuses n) = tt
 
 pub has-room : (c : Claim) → Fit c → (i : ℕ) → Roomy c (effectAt c i)

@@ -109,19 +109,19 @@ module _ (c : Claim) (f : Fit c) (i : ℕ) (h : i < length (c .row)) where
   unfolding rowAfter perform placeNumber
   row-same (Goes t) r = row-goes t
   row-same Ends r = row-taken 32 (c .row) i h (live-32 c f)
-  row-same (Waits l t) r =
+  row-same (Waits t l) r =
       let a = length-without (c .row) i h in
       let b = live-32 c f in
       ap (λ (x : Row). putAt (length (c .row) - 1) (waitPlace l) t x) (row-taken 32 (c .row) i h b)
       ∙ row-add 32 (without (c .row) i) (length (c .row) - 1) t (on l) (omega arith) (omega arith)
-  row-same (Fills k l v t) r =
+  row-same (Fills t k l v) r =
       let a = length-set (c .row) i (readied t) in
       let b = live-32 c f in
       ap (λ (x : Row). wokenAt (length (c .row)) (waitPlace l) x) (row-goes t)
       ∙ row-woken 32 (set (c .row) i (readied t)) l (length (c .row)) (sym a) (placed t) (omega arith)
-  row-same (Empties l t) r = row-goes t
-  row-same (Makes k n t) r = row-goes t
-  row-same (Spawns new t) r =
+  row-same (Empties t l) r = row-goes t
+  row-same (Makes t k n) r = row-goes t
+  row-same (Spawns t new) r =
       let a = length-set (c .row) i (readied t) in
       let b = f .threads in
       ap (λ (x : Row). putAt (length (c .row)) readyPlace new x) (row-goes t)

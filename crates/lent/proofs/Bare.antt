@@ -2,30 +2,35 @@
 use Prim.Native.Nat.{ℕ, _+_, _≤_, _<_}
 use native.Mathlib.Numerals.{add-one}
 use mathlib.Core.Path.{_≡_, refl, sym, _∙_}
-use mathlib.Core.Bool.{true, false}
+use mathlib.Core.Bool.{Bool, true, false, _&&_}
 use mathlib.Core.List.{List}
 use lib.ListN.{length, getD, drop, drop-of-length-le}
 use lib.Seq.{drop-cons}
 use borrow.Author.Tests.{ne-eqb}
 use Rattle.laws.specs.Lists.{all}
+use Rattle.laws.proofs.Choice.{only-first}
 use Rattle.lent.specs.Runs.{isZero}
 
--- what is left to test from i on is what was to be tested
-pub record Bare (s : List ℕ) (i : ℕ) : Type 0 where
-  pub same : all isZero s ≡ all isZero (drop i s)
+-- the list is all zero if what is tested so far is, and what is left from i on
+pub record Bare (s : List ℕ) (bare : Bool) (i : ℕ) : Type 0 where
+  pub same : all isZero s ≡ (bare && all isZero (drop i s))
 
-pub bare-start : {s : List ℕ} → Bare s 0
+pub bare-start : {s : List ℕ} → Bare s true 0
 bare-start = record { same = refl }
 
-module _ {s : List ℕ} {i : ℕ} (b : Bare s i) where
-  pub bare-on : i < length s → getD s i 0 ≡ 0 → Bare s (i + 1)
-  unfolding all isZero
-  bare-on h z = record { same = b .same ∙ rw (add-one i, drop-cons s i 0 h) (rw z) }
+not-bare : (bare : Bool) → (bare && false) ≡ false
+not-bare true = refl
+not-bare false = refl
 
-  pub bare-off : i < length s → (getD s i 0 ≡ 0 → ⊥) → false ≡ all isZero s
+module _ {s : List ℕ} {bare : Bool} {i : ℕ} (b : Bare s bare i) where
+  pub bare-on : i < length s → {bare′ : Bool} → getD s i 0 ≡ 0 → bare′ ≡ bare → Bare s bare′ (i + 1)
   unfolding all isZero
-  bare-off h z = sym (b .same ∙ rw (drop-cons s i 0 h) (rw (ne-eqb (getD s i 0) 0 z)))
+  bare-on h z e = record { same = b .same ∙ rw (e, add-one i, drop-cons s i 0 h) (rw z) }
 
-  pub bare-end : length s ≤ i → true ≡ all isZero s
+  pub bare-off : i < length s → {bare′ : Bool} → (getD s i 0 ≡ 0 → ⊥) → bare′ ≡ false → Bare s bare′ (i + 1)
+  unfolding all isZero
+  bare-off h z e = record { same = b .same ∙ rw (e, drop-cons s i 0 h) (rw (ne-eqb (getD s i 0) 0 z) (not-bare bare)) }
+
+  pub bare-end : length s ≤ i → bare ≡ all isZero s
   unfolding all
-  bare-end h = sym (b .same ∙ rw (drop-of-length-le s h))
+  bare-end h = sym (b .same ∙ rw (drop-of-length-le s h) (only-first bare true refl))

@@ -1,3 +1,4 @@
 pub mod Writes
 pub mod Bare
 pub mod Bytes
+pub mod Kept

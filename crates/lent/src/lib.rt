@@ -102,53 +102,57 @@ pub fn wipe64(s: &mut [u64])
 pub fn is_bare8(s: &[u8]) -> bool
     ensures { λ r. ⌜ r ≡ all isZero (now (s .entry)) ⌝ }
 {
+    let mut bare = true;
     let mut i: usize = 0;
     while i < s.len() {
         if s[i] != 0u8 {
-            return false;
+            bare = false;
         }
         i += 1;
     }
-    true
+    bare
 }
 
 pub fn is_bare16(s: &[u16]) -> bool
     ensures { λ r. ⌜ r ≡ all isZero (now (s .entry)) ⌝ }
 {
+    let mut bare = true;
     let mut i: usize = 0;
     while i < s.len() {
         if s[i] != 0u16 {
-            return false;
+            bare = false;
         }
         i += 1;
     }
-    true
+    bare
 }
 
 pub fn is_bare32(s: &[u32]) -> bool
     ensures { λ r. ⌜ r ≡ all isZero (now (s .entry)) ⌝ }
 {
+    let mut bare = true;
     let mut i: usize = 0;
     while i < s.len() {
         if s[i] != 0u32 {
-            return false;
+            bare = false;
         }
         i += 1;
     }
-    true
+    bare
 }
 
 pub fn is_bare64(s: &[u64]) -> bool
     ensures { λ r. ⌜ r ≡ all isZero (now (s .entry)) ⌝ }
 {
+    let mut bare = true;
     let mut i: usize = 0;
     while i < s.len() {
         if s[i] != 0u64 {
-            return false;
+            bare = false;
         }
         i += 1;
     }
-    true
+    bare
 }
 
 // That bytes are below 256, said of the list: their type makes it true, so there is nothing to find out.

@@ -29,11 +29,11 @@ module _ (c : Claim) where
   pub data Lawful : Effect → Type 0 where
     goes : {t : Thread} → Lawful (Goes t)
     ends : Lawful Ends
-    waits : {k : Kind} {l : ℕ} {t : Thread} → look c l ≡ Slot.Empty k → Lawful (Waits l t)
-    fills : {k : Kind} {l : ℕ} {v : Value} {t : Thread} → look c l ≡ Slot.Empty k → Lawful (Fills k l v t)
-    empties : {l : ℕ} {v : Value} {t : Thread} → look c l ≡ Slot.Full Mcell v → Lawful (Empties l t)
-    makes-some : {k : Kind} {n : ℕ} {t : Thread} → Lawful (Makes k n t)
-    spawns : {new t : Thread} → Lawful (Spawns new t)
+    waits : {k : Kind} {l : ℕ} {t : Thread} → look c l ≡ Slot.Empty k → Lawful (Waits t l)
+    fills : {k : Kind} {l : ℕ} {v : Value} {t : Thread} → look c l ≡ Slot.Empty k → Lawful (Fills t k l v)
+    empties : {l : ℕ} {v : Value} {t : Thread} → look c l ≡ Slot.Full Mcell v → Lawful (Empties t l)
+    makes-some : {k : Kind} {n : ℕ} {t : Thread} → Lawful (Makes t k n)
+    spawns : {new t : Thread} → Lawful (Spawns t new)
     refuses : {n : ℕ} → nine n ≡ true → Lawful (Refuses n)
 
   bind : {A : Type 0} {t : Test A} {f : A → Effect} → Numbered t → ((a : A) → Lawful (f a)) → Lawful (t >>= f)

@@ -28,11 +28,11 @@ pub performed : (e : Effect) (i : ℕ) (c : Claim) → Next c (perform e i c)
 unfolding perform
 performed (Goes t) i c = record { seat = refl; image = refl; steps = refl }
 performed Ends i c = record { seat = refl; image = refl; steps = refl }
-performed (Waits l t) i c = record { seat = refl; image = refl; steps = refl }
-performed (Fills k l v t) i c = record { seat = refl; image = refl; steps = refl }
-performed (Empties l t) i c = record { seat = refl; image = refl; steps = refl }
-performed (Makes k n t) i c = record { seat = refl; image = refl; steps = refl }
-performed (Spawns new t) i c = record { seat = refl; image = refl; steps = refl }
+performed (Waits t l) i c = record { seat = refl; image = refl; steps = refl }
+performed (Fills t k l v) i c = record { seat = refl; image = refl; steps = refl }
+performed (Empties t l) i c = record { seat = refl; image = refl; steps = refl }
+performed (Makes t k n) i c = record { seat = refl; image = refl; steps = refl }
+performed (Spawns t new) i c = record { seat = refl; image = refl; steps = refl }
 performed (Refuses n) i c = record { seat = refl; image = refl; steps = refl }
 
 module _ (c : Claim) where

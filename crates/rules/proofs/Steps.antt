@@ -21,11 +21,11 @@ answers-ran : (e : Effect) → leb (answerOf e) 3 ≡ true
 unfolding answerOf
 answers-ran (Goes t) = refl
 answers-ran Ends = refl
-answers-ran (Waits l t) = refl
-answers-ran (Fills k l v t) = refl
-answers-ran (Empties l t) = refl
-answers-ran (Makes k n t) = refl
-answers-ran (Spawns new t) = refl
+answers-ran (Waits t l) = refl
+answers-ran (Fills t k l v) = refl
+answers-ran (Empties t l) = refl
+answers-ran (Makes t k n) = refl
+answers-ran (Spawns t new) = refl
 answers-ran (Refuses n) = refl
 
 module _ (c : Claim) where

@@ -126,11 +126,11 @@ wake l row = keep (λ t. not (isOn l t)) row ++ map (λ t. readied (t .thread)) 
 unfoldable pub room : Claim → Effect → Effect
 room c (Goes t) = Goes t
 room c Ends = Ends
-room c (Waits l t) = Waits l t
-room c (Fills k l v t) = Fills k l v t
-room c (Empties l t) = Empties l t
-room c (Makes k n t) = if leb (length (c .cells) + n) (c .seat .cells) then Makes k n t else Refuses noCellsLeft
-room c (Spawns new t) = if eqb (length (c .row)) (c .seat .threads) then Refuses noThreadsLeft else Spawns new t
+room c (Waits t l) = Waits t l
+room c (Fills t k l v) = Fills t k l v
+room c (Empties t l) = Empties t l
+room c (Makes t k n) = if leb (length (c .cells) + n) (c .seat .cells) then Makes t k n else Refuses noCellsLeft
+room c (Spawns t new) = if eqb (length (c .row)) (c .seat .threads) then Refuses noThreadsLeft else Spawns t new
 room c (Refuses n) = Refuses n
 
 -- the claim with other cells and another row, one step on
@@ -150,11 +150,11 @@ stepped c cells row =
 unfoldable pub perform : Effect → ℕ → Claim → Claim
 perform (Goes t) i c = stepped c (c .cells) (set (c .row) i (readied t))
 perform Ends i c = stepped c (c .cells) (without (c .row) i)
-perform (Waits l t) i c = stepped c (c .cells) (without (c .row) i ++ waiting l t ∷ [])
-perform (Fills k l v t) i c = stepped c (put c l (full k v)) (wake l (set (c .row) i (readied t)))
-perform (Empties l t) i c = stepped c (put c l (empty Mcell)) (set (c .row) i (readied t))
-perform (Makes k n t) i c = stepped c (c .cells ++ replicate n (empty k)) (set (c .row) i (readied t))
-perform (Spawns new t) i c = stepped c (c .cells) (set (c .row) i (readied t) ++ readied new ∷ [])
+perform (Waits t l) i c = stepped c (c .cells) (without (c .row) i ++ waiting l t ∷ [])
+perform (Fills t k l v) i c = stepped c (put c l (full k v)) (wake l (set (c .row) i (readied t)))
+perform (Empties t l) i c = stepped c (put c l (empty Mcell)) (set (c .row) i (readied t))
+perform (Makes t k n) i c = stepped c (c .cells ++ replicate n (empty k)) (set (c .row) i (readied t))
+perform (Spawns t new) i c = stepped c (c .cells) (set (c .row) i (readied t) ++ readied new ∷ [])
 -- "A refused instruction sets status, refusal and position and adds its step, nothing else; its thread stays where it was."
 perform (Refuses n) i c =
     record {

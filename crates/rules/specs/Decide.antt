@@ -75,23 +75,23 @@ module _ (after : ℕ) (see : View) (th : Thread) where
   -- "full gives its value to the accumulator; MFETCH, on an M-cell only, then empties it. Empty: the thread waits, accumulator nil, at this same instruction."
   unfoldable pub gives : Kind → ℕ → Value → Effect
   gives Icell l v = Goes (next v)
-  gives Mcell l v = Empties l (next v)
+  gives Mcell l v = Empties (next v) l
 
   unfoldable pub fetches : Kind → ℕ → ℕ → Effect
   fetches kind s k = do
     l ← place (locationIn s)
-    ifFull (gives kind (l + k)) (Waits (l + k) again) (cellIn kind (see .at l k))
+    ifFull (gives kind (l + k)) (Waits again (l + k)) (cellIn kind (see .at l k))
 
   -- "ISTORE and MSTORE (slot t's value to the location in s)"
   unfoldable pub stores : Kind → ℕ → ℕ → Effect
   stores kind s t = do
     l ← place (locationIn s)
     v ← value (valueIn (slot t))
-    ifEmpty (Fills kind l v onward) (cellIn kind (see .at l 0))
+    ifEmpty (Fills onward kind l v) (cellIn kind (see .at l 0))
 
   -- "IALLOC, MALLOC (size in slot, 1 to 1,024) and FRAME make that many empty cells ..; the accumulator is the first one's location."
   unfoldable pub makes : Kind → ℕ → Effect
-  makes kind n = Makes kind n (next (Location (see .fresh)))
+  makes kind n = Makes (next (Location (see .fresh))) kind n
 
   unfoldable pub allocates : Kind → ℕ → Effect
   allocates kind s = do
@@ -110,25 +110,25 @@ module _ (after : ℕ) (see : View) (th : Thread) where
     v ← value (valueIn (slot s))
     Goes (next v)
   -- "TOUCH: .. Full or not, the accumulator becomes nil. .. Empty: the thread waits with the next instruction to run."
-  decide (I.Touch s) = ifFull (λ v. Goes (next Nil)) (Waits (th .frame + s) (next Nil)) (cellIn Icell (slot s))
+  decide (I.Touch s) = ifFull (λ v. Goes (next Nil)) (Waits (next Nil) (th .frame + s)) (cellIn Icell (slot s))
   decide (I.Ifetch s) = fetches Icell s 0
   decide (I.Get s k) = fetches Icell s k
   decide (I.Mfetch s) = fetches Mcell s 0
   -- "STORE (accumulator to slot), PUT (accumulator to location in s, plus k)"
-  decide (I.Store s) = ifEmpty (Fills Icell (th .frame + s) (th .acc) onward) (cellIn Icell (slot s))
+  decide (I.Store s) = ifEmpty (Fills onward Icell (th .frame + s) (th .acc)) (cellIn Icell (slot s))
   decide (I.Put s k) = do
     l ← place (locationIn s)
-    ifEmpty (Fills Icell (l + k) (th .acc) onward) (cellIn Icell (see .at l k))
+    ifEmpty (Fills onward Icell (l + k) (th .acc)) (cellIn Icell (see .at l k))
   decide (I.Istore s t) = stores Icell s t
   decide (I.Mstore s t) = stores Mcell s t
   decide (I.Ialloc s) = allocates Icell s
   decide (I.Malloc s) = allocates Mcell s
   decide (I.Frame n) = makes Icell n
   -- "SPAWN (same frame) and APPLY (frame from slot) put a new thread at the back, accumulator nil"
-  decide (I.Spawn a) = Spawns (thread a (th .frame) Nil) onward
+  decide (I.Spawn a) = Spawns onward (thread a (th .frame) Nil)
   decide (I.Apply a s) = do
     l ← place (locationIn s)
-    Spawns (thread a l Nil) onward
+    Spawns onward (thread a l Nil)
   decide (I.Binary o s t) = do
     v ← value (withFirst o (valueIn (slot s)) (valueIn (slot t)))
     Goes (next v)

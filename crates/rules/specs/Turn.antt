@@ -36,11 +36,11 @@ effectAt c i = room c (decided (fetchedAt (c .image) (codeOf (readImage (c .imag
 unfoldable pub answerOf : Effect → ℕ
 answerOf (Goes t) = 0
 answerOf Ends = 1
-answerOf (Waits l t) = 2
-answerOf (Fills k l v t) = 0
-answerOf (Empties l t) = 0
-answerOf (Makes k n t) = 0
-answerOf (Spawns new t) = 0
+answerOf (Waits t l) = 2
+answerOf (Fills t k l v) = 0
+answerOf (Empties t l) = 0
+answerOf (Makes t k n) = 0
+answerOf (Spawns t new) = 0
 answerOf (Refuses n) = 3
 
 unfoldable pub isRunning : Status → Bool

@@ -27,19 +27,20 @@ pub enum Size {
 }
 
 pub struct Thread {
-    pub position: u16,
     pub frame: u16,
+    pub position: u16,
     pub acc: Value,
 }
 
-// What an instruction does. The last thread is the one that ran, as it goes on or waits.
+// What an instruction does. The first thread is the one that ran, as it goes on or waits; it lies at one place in every case, so
+// that it is read back as it was written.
 pub enum Effect {
     Goes(Thread),
     Ends,
-    Waits(usize, Thread),
-    Fills(Kind, usize, Value, Thread),
-    Empties(usize, Thread),
-    Makes(Kind, u16, Thread),
+    Waits(Thread, usize),
+    Fills(Thread, Kind, usize, Value),
+    Empties(Thread, usize),
+    Makes(Thread, Kind, u16),
     Spawns(Thread, Thread),
     Refuses(u8),
 }

@@ -54,20 +54,20 @@ tallyWith n used live refusal halted =
 unfoldable pub tallyAfter : Effect → ℕ → Tally → Tally
 tallyAfter (Goes t) i n = tallyWith n (n .used) (n .live) (n .refusal) (n .halted)
 tallyAfter Ends i n = tallyWith n (n .used) (n .live - 1) (n .refusal) (n .halted)
-tallyAfter (Waits l t) i n = tallyWith n (n .used) (n .live) (n .refusal) (n .halted)
-tallyAfter (Fills k l v t) i n = tallyWith n (n .used) (n .live) (n .refusal) (n .halted)
-tallyAfter (Empties l t) i n = tallyWith n (n .used) (n .live) (n .refusal) (n .halted)
-tallyAfter (Makes k m t) i n = tallyWith n (sumOr (n .used) m) (n .live) (n .refusal) (n .halted)
-tallyAfter (Spawns new t) i n = tallyWith n (n .used) (sumOr (n .live) 1) (n .refusal) (n .halted)
+tallyAfter (Waits t l) i n = tallyWith n (n .used) (n .live) (n .refusal) (n .halted)
+tallyAfter (Fills t k l v) i n = tallyWith n (n .used) (n .live) (n .refusal) (n .halted)
+tallyAfter (Empties t l) i n = tallyWith n (n .used) (n .live) (n .refusal) (n .halted)
+tallyAfter (Makes t k m) i n = tallyWith n (sumOr (n .used) m) (n .live) (n .refusal) (n .halted)
+tallyAfter (Spawns t new) i n = tallyWith n (n .used) (sumOr (n .live) 1) (n .refusal) (n .halted)
 tallyAfter (Refuses m) i n = tallyWith n (n .used) (n .live) m (narrow i)
 
 -- "then room"
 unfoldable pub roomIn : Tally → Effect → Effect
 roomIn n (Goes t) = Goes t
 roomIn n Ends = Ends
-roomIn n (Waits l t) = Waits l t
-roomIn n (Fills k l v t) = Fills k l v t
-roomIn n (Empties l t) = Empties l t
-roomIn n (Makes k m t) = if leb (n .used + m) (n .cells) then Makes k m t else Refuses noCellsLeft
-roomIn n (Spawns new t) = if ltb (n .live) (n .threads) then Spawns new t else Refuses noThreadsLeft
+roomIn n (Waits t l) = Waits t l
+roomIn n (Fills t k l v) = Fills t k l v
+roomIn n (Empties t l) = Empties t l
+roomIn n (Makes t k m) = if leb (n .used + m) (n .cells) then Makes t k m else Refuses noCellsLeft
+roomIn n (Spawns t new) = if ltb (n .live) (n .threads) then Spawns t new else Refuses noThreadsLeft
 roomIn n (Refuses m) = Refuses m

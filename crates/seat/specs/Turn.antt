@@ -54,9 +54,12 @@ unfoldable pub decidedOn : Fetched → View → Thread → Effect
 decidedOn (Fetched.Is i after) see th = decide (after % 65536) see th i
 decidedOn Fetched.Nothing see th = Ends
 
+-- what the instruction asks for, and then room
+unfoldable pub askedIn : List ℕ → ℕ → Tally → List ℕ → List ℕ → Thread → Effect
+askedIn image start n tags words th = decidedOn (fetchedAt image (n .code) (th .position)) (viewOn tags words (n .used) start) th
+
 unfoldable pub effectIn : List ℕ → ℕ → Tally → List ℕ → List ℕ → Thread → Effect
-effectIn image start n tags words th =
-    roomIn n (decidedOn (fetchedAt image (n .code) (th .position)) (viewOn tags words (n .used) start) th)
+effectIn image start n tags words th = roomIn n (askedIn image start n tags words th)
 
 unfoldable pub performed : Effect → ℕ → ℕ → Parts → Parts
 performed e start i p =
@@ -67,6 +70,10 @@ performed e start i p =
       heads = rowAfter e i (tallyIn (p .book) .live) (row (p .heads) (p .accs)) .heads;
       accs = rowAfter e i (tallyIn (p .book) .live) (row (p .heads) (p .accs)) .accs;
     }
+
+-- what is asked for, done if there is room, and its answer
+unfoldable pub enacted : Effect → ℕ → ℕ → Parts → Turned
+enacted e start i p = turned (answerOf (roomIn (tallyIn (p .book)) e)) (performed (roomIn (tallyIn (p .book)) e) start i p)
 
 unfoldable pub effectOn : List ℕ → ℕ → Parts → ℕ → Effect
 effectOn image start p i =

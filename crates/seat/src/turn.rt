@@ -1,6 +1,7 @@
 // One pick on one seat: which thread runs, what it does, and what is written.
 use crate::book;
 use crate::book::Tally;
+use crate::effects;
 use choose::Standing;
 use image::records;
 use image::records::Fetched;
@@ -10,6 +11,7 @@ use rules::Thread;
 use threads::Found;
 ghost use mathlib.Core.Path.{_≡_};
 ghost use Prim.Native.Nat.{_%_};
+ghost use Rattle.threads.specs.Row.{foundFrom};
 ghost use Rattle.seat.specs.Turn as Turn;
 
 // The row place of the thread to run, or the answer where none runs.
@@ -40,8 +42,9 @@ fn gate_by(n: Tally, f: Found) -> Gate
     }
 }
 
-fn gate_of(n: Tally, f: Found) -> Gate
-    ensures { λ r. ⌜ r ≡ Turn.gateOf n f ⌝ }
+// The row is searched only where a claim may run.
+fn gate_of(n: Tally, heads: &[u64], pick: usize) -> Gate
+    ensures { λ r. ⌜ r ≡ Turn.gateOf n (foundFrom pick 0 0 (now (heads .entry))) ⌝ }
 {
     if n.length == 0 {
         return Gate::Stop(5);
@@ -49,7 +52,7 @@ fn gate_of(n: Tally, f: Found) -> Gate
     if n.refusal != 0 {
         return Gate::Stop(5);
     }
-    gate_by(n, f)
+    gate_by(n, threads::find_ready(heads, pick))
 }
 
 fn low16(x: usize) -> u16
@@ -58,9 +61,9 @@ fn low16(x: usize) -> u16
     (x % 65536) as u16
 }
 
-// What the thread does next: nothing is written.
-fn effect_in(image: &[u8], start: u32, n: Tally, tags: &[u16], words: &[u64], th: Thread) -> Effect
-    ensures { λ r. ⌜ r ≡ Turn.effectIn (now (image .entry)) start n (now (tags .entry)) (now (words .entry)) th ⌝ }
+// What the thread's instruction asks for, before room is tested: nothing is written.
+fn asked(image: &[u8], start: u32, n: Tally, tags: &[u16], words: &[u64], th: Thread) -> Effect
+    ensures { λ r. ⌜ r ≡ Turn.askedIn (now (image .entry)) start n (now (tags .entry)) (now (words .entry)) th ⌝ }
 {
     match records::fetch(image, n.code, th.position) {
         Fetched::Is(i, after) => {
@@ -70,30 +73,10 @@ fn effect_in(image: &[u8], start: u32, n: Tally, tags: &[u16], words: &[u64], th
                 after: low16(after),
                 thread: th,
             };
-            book::room_in(n, choose::choose(tags, words, at, i))
+            choose::choose(tags, words, at, i)
         }
-        Fetched::Nothing => book::room_in(n, Effect::Ends),
+        Fetched::Nothing => Effect::Ends,
     }
-}
-
-// The effect written to each part, and its step counted.
-fn perform(
-    book: &mut [u32],
-    tags: &mut [u16],
-    words: &mut [u64],
-    heads: &mut [u64],
-    accs: &mut [u64],
-    e: Effect,
-    start: u32,
-    i: usize,
-)
-    ensures { λ _. ⌜ Turn.performed e start i (Turn.parts (now (book .entry)) (now (tags .entry)) (now (words .entry)) (now (heads .entry)) (now (accs .entry))) ≡ Turn.parts (now (book .exit)) (now (tags .exit)) (now (words .exit)) (now (heads .exit)) (now (accs .exit)) ⌝ }
-{
-    let n = book::read_book(&book[..]);
-    book::write_book(book, book::tally_after(e, i, n));
-    cells::write_tags(tags, e, n.used, start);
-    cells::write_words(words, e, n.used, start);
-    threads::write_row(heads, accs, e, i, n.live);
 }
 
 pub fn turn(
@@ -109,14 +92,12 @@ pub fn turn(
     ensures { λ r. ⌜ Turn.turnOn (now (image .entry)) start pick (Turn.parts (now (book .entry)) (now (tags .entry)) (now (words .entry)) (now (heads .entry)) (now (accs .entry))) ≡ Turn.turned r (Turn.parts (now (book .exit)) (now (tags .exit)) (now (words .exit)) (now (heads .exit)) (now (accs .exit))) ⌝ }
 {
     let n = book::read_book(&book[..]);
-    let g = gate_of(n, threads::find_ready(&heads[..], pick));
-    match g {
+    match gate_of(n, &heads[..], pick) {
         Gate::Stop(a) => a,
         Gate::Go(i) => {
             let th = threads::thread_in(get64(&heads[..], i), get64(&accs[..], i));
-            let e = effect_in(image, start, n, &tags[..], &words[..], th);
-            perform(book, tags, words, heads, accs, e, start, i);
-            book::answer_of(e)
+            let e = asked(image, start, n, &tags[..], &words[..], th);
+            effects::perform(book, tags, words, heads, accs, e, start, i)
         }
     }
 }

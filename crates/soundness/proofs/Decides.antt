@@ -46,11 +46,11 @@ module _ (c : Claim) (code : ℕ) where
   abbrev pub Keeps : Effect → Type 0
   Keeps (Goes t) = On t
   Keeps Ends = Unit {0}
-  Keeps (Waits l t) = On t
-  Keeps (Fills k l v t) = Ok v × On t
-  Keeps (Empties l t) = On t
-  Keeps (Makes k n t) = (length (c .cells) + n ≤ c .seat .cells) × On t
-  Keeps (Spawns new t) = (length (c .row) < c .seat .threads) × (On new × On t)
+  Keeps (Waits t l) = On t
+  Keeps (Fills t k l v) = Ok v × On t
+  Keeps (Empties t l) = On t
+  Keeps (Makes t k n) = (length (c .cells) + n ≤ c .seat .cells) × On t
+  Keeps (Spawns t new) = (length (c .row) < c .seat .threads) × (On new × On t)
   Keeps (Refuses n) = Unit {0}
 
   -- once room is tested: for lack of it an effect is a refusal
@@ -112,17 +112,17 @@ module _ (c : Claim) (code : ℕ) where
         made : (kind : Kind) (n : ℕ) → Does (makes after (view c) th kind n)
         unfolding makes room wellFormed
         made kind n =
-            does (either-way Keeps (leb (length (c .cells) + n) (c .seat .cells)) {a = Makes kind n (thread after (th .frame) (Location (view c .fresh)))} {b = Refuses noCellsLeft}
+            does (either-way Keeps (leb (length (c .cells) + n) (c .seat .cells)) {a = Makes (thread after (th .frame) (Location (view c .fresh))) kind n} {b = Refuses noCellsLeft}
             (λ p. (leb-true _ _ p, next (le-leb (c .seat .start + length (c .cells)) 65535 (omega (arith, s .used, roomy .region))))) (λ _. tt))
 
         allocated : (kind : Kind) (s : ℕ) → Does (allocates after (view c) th kind s)
         unfolding allocates
         allocated kind t = bind (anything (size (sizeOf (integerOf (held t))))) λ n _. made kind n
 
-        spawned : (new : Thread) → On new → Does (Spawns new (thread after (th .frame) (th .acc)))
+        spawned : (new : Thread) → On new → Does (Spawns (thread after (th .frame) (th .acc)) new)
         unfolding room
         spawned new o =
-            does (either-way Keeps (eqb (length (c .row)) (c .seat .threads)) {a = Refuses noThreadsLeft} {b = Spawns new (thread after (th .frame) (th .acc))} (λ _. tt)
+            does (either-way Keeps (eqb (length (c .row)) (c .seat .threads)) {a = Refuses noThreadsLeft} {b = Spawns (thread after (th .frame) (th .acc)) new} (λ _. tt)
             (λ p. let d = eqb-false (length (c .row)) (c .seat .threads) p in (omega (arith, s .live), (o, next (runs .acc)))))
 
       abbrev Aims : Instruction → Type 0

@@ -60,9 +60,9 @@ wokenAt live place r =
 unfoldable pub rowAfter : Effect → ℕ → ℕ → Row → Row
 rowAfter (Goes t) i live r = putAt i readyPlace t r
 rowAfter Ends i live r = takenAt i r
-rowAfter (Waits l t) i live r = putAt (live - 1) (waitPlace l) t (takenAt i r)
-rowAfter (Fills k l v t) i live r = wokenAt live (waitPlace l) (putAt i readyPlace t r)
-rowAfter (Empties l t) i live r = putAt i readyPlace t r
-rowAfter (Makes k n t) i live r = putAt i readyPlace t r
-rowAfter (Spawns new t) i live r = putAt live readyPlace new (putAt i readyPlace t r)
+rowAfter (Waits t l) i live r = putAt (live - 1) (waitPlace l) t (takenAt i r)
+rowAfter (Fills t k l v) i live r = wokenAt live (waitPlace l) (putAt i readyPlace t r)
+rowAfter (Empties t l) i live r = putAt i readyPlace t r
+rowAfter (Makes t k n) i live r = putAt i readyPlace t r
+rowAfter (Spawns t new) i live r = putAt live readyPlace new (putAt i readyPlace t r)
 rowAfter (Refuses n) i live r = r

@@ -1,6 +1,5 @@
 // A seat's thread records, as heads and accumulators' words: read, searched, and written after an effect.
 use lent::put64;
-use rules::Effect;
 use rules::Thread;
 use value::Value;
 use value::coding;
@@ -9,8 +8,8 @@ ghost use mathlib.Core.Path.{_≡_};
 ghost use Prim.Native.Nat.{_-_, _<_, _%_};
 ghost use lib.ListN.{length};
 ghost use Rattle.value.specs.Coding.{wordOf};
-ghost use Rattle.threads.specs.Heads.{packed, headOf, waitPlace, readied, valueOr, threadIn};
-ghost use Rattle.threads.specs.Row.{foundFrom, shifted, woken, sifted, row, putAt, takenAt, wokenAt, rowAfter};
+ghost use Rattle.threads.specs.Heads.{packed, headOf, readyPlace, waitPlace, readied, valueOr, threadIn};
+ghost use Rattle.threads.specs.Row.{foundFrom, shifted, woken, sifted, row, putAt, takenAt, wokenAt};
 
 // The place in the row of the picked ready record, or how many are ready.
 pub enum Found {
@@ -165,7 +164,8 @@ pub fn put_record(heads: &mut [u64], accs: &mut [u64], i: usize, place: u16, t: 
     put64(accs, i, word_of(acc));
 }
 
-fn take_record(heads: &mut [u64], accs: &mut [u64], i: usize)
+// The thread at i leaves the row.
+pub fn take_record(heads: &mut [u64], accs: &mut [u64], i: usize)
     ensures { λ _. ⌜ takenAt i (row (now (heads .entry)) (now (accs .entry))) ≡ row (now (heads .exit)) (now (accs .exit)) ⌝ }
 {
     shift(heads, i, 0);
@@ -178,27 +178,34 @@ fn one_less(n: u32) -> usize
     if 1 <= n { (n - 1) as usize } else { 0 }
 }
 
-pub fn write_row(heads: &mut [u64], accs: &mut [u64], e: Effect, i: usize, live: u32)
-    ensures { λ _. ⌜ rowAfter e i live (row (now (heads .entry)) (now (accs .entry))) ≡ row (now (heads .exit)) (now (accs .exit)) ⌝ }
+// The thread at i waits on a location: it joins that cell's list last.
+pub fn wait_record(heads: &mut [u64], accs: &mut [u64], i: usize, live: u32, l: usize, t: Thread)
+    ensures { λ _. ⌜ putAt (live - 1) (waitPlace l) t (takenAt i (row (now (heads .entry)) (now (accs .entry)))) ≡ row (now (heads .exit)) (now (accs .exit)) ⌝ }
 {
-    match e {
-        Effect::Goes(t) => put_record(heads, accs, i, 1, t),
-        Effect::Ends => take_record(heads, accs, i),
-        Effect::Waits(l, t) => {
-            take_record(heads, accs, i);
-            let last = one_less(live);
-            put_record(heads, accs, last, wait_place(l), t);
-        }
-        Effect::Fills(_, l, _, t) => {
-            put_record(heads, accs, i, 1, t);
-            wake_first(heads, accs, live as usize, wait_place(l));
-        }
-        Effect::Empties(_, t) => put_record(heads, accs, i, 1, t),
-        Effect::Makes(_, _, t) => put_record(heads, accs, i, 1, t),
-        Effect::Spawns(new, t) => {
-            put_record(heads, accs, i, 1, t);
-            put_record(heads, accs, live as usize, 1, new);
-        }
-        Effect::Refuses(_) => {}
-    }
+    take_record(heads, accs, i);
+    let last = one_less(live);
+    put_record(heads, accs, last, wait_place(l), t);
+}
+
+// The thread at i goes on, and all that wait on a location are woken.
+pub fn wake_record(heads: &mut [u64], accs: &mut [u64], i: usize, live: u32, l: usize, t: Thread)
+    ensures { λ _. ⌜ wokenAt live (waitPlace l) (putAt i readyPlace t (row (now (heads .entry)) (now (accs .entry)))) ≡ row (now (heads .exit)) (now (accs .exit)) ⌝ }
+{
+    put_record(heads, accs, i, 1, t);
+    wake_first(heads, accs, live as usize, wait_place(l));
+}
+
+// The thread at i goes on, with a new one at the back.
+pub fn spawn_record(
+    heads: &mut [u64],
+    accs: &mut [u64],
+    i: usize,
+    live: u32,
+    new: Thread,
+    t: Thread,
+)
+    ensures { λ _. ⌜ putAt live readyPlace new (putAt i readyPlace t (row (now (heads .entry)) (now (accs .entry)))) ≡ row (now (heads .exit)) (now (accs .exit)) ⌝ }
+{
+    put_record(heads, accs, i, 1, t);
+    put_record(heads, accs, live as usize, 1, new);
 }

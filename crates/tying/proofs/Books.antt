@@ -32,11 +32,11 @@ seat-kept : (e : Effect) (i : ℕ) (c : Claim) → perform e i c .seat ≡ c .se
 unfolding perform
 seat-kept (Goes t) i c = refl
 seat-kept Ends i c = refl
-seat-kept (Waits l t) i c = refl
-seat-kept (Fills k l v t) i c = refl
-seat-kept (Empties l t) i c = refl
-seat-kept (Makes k n t) i c = refl
-seat-kept (Spawns new t) i c = refl
+seat-kept (Waits t l) i c = refl
+seat-kept (Fills t k l v) i c = refl
+seat-kept (Empties t l) i c = refl
+seat-kept (Makes t k n) i c = refl
+seat-kept (Spawns t new) i c = refl
 seat-kept (Refuses n) i c = refl
 
 parts-same : {b t w b' t' w' : List ℕ} {r r' : Row} → b ≡ b' → t ≡ t' → w ≡ w' → r ≡ r' → parts b t w (r .heads) (r .accs) ≡ parts b' t' w' (r' .heads) (r' .accs)
@@ -53,20 +53,20 @@ module _ (c : Claim) (f : Fit c) (i : ℕ) (l : i < length (c .row)) (s : c .ste
       let a = length-without (c .row) i l in
       let q : length (without (c .row) i) ≡ length (c .row) - 1 = omega arith in
       rw (step-is, q)
-  book-same (Waits m t) r =
+  book-same (Waits t m) r =
       let a = length-append (without (c .row) i) (waiting m t ∷ []) in
       let b = length-without (c .row) i l in
       let q : length (without (c .row) i ++ waiting m t ∷ []) ≡ length (c .row) = omega arith in
       rw (step-is, q)
-  book-same (Fills k m v t) r =
+  book-same (Fills t k m v) r =
       rw (step-is, length-set (c .cells) (m - c .seat .start) (full k v), length-wake m (set (c .row) i (readied t)), length-set (c .row) i (readied t))
-  book-same (Empties m t) r = rw (step-is, length-set (c .cells) (m - c .seat .start) (empty Mcell), length-set (c .row) i (readied t))
-  book-same (Makes k n t) r =
+  book-same (Empties t m) r = rw (step-is, length-set (c .cells) (m - c .seat .start) (empty Mcell), length-set (c .row) i (readied t))
+  book-same (Makes t k n) r =
       let a = f .region in
       let q : length (c .cells ++ replicate n (empty k)) ≡ length (c .cells) + n
       = length-append (c .cells) (replicate n (empty k)) ∙ ap (λ (x : ℕ). length (c .cells) + x) (length-replicate n (empty k)) in
       rw (step-is, sum-is (length (c .cells)) n (omega arith), q, length-set (c .row) i (readied t))
-  book-same (Spawns new t) r =
+  book-same (Spawns t new) r =
       let b = live-32 c f in
       let a = length-append (set (c .row) i (readied t)) (readied new ∷ []) in
       let g = length-set (c .row) i (readied t) in

@@ -26,21 +26,21 @@ use Rattle.laying.proofs.Fitting.{Fit}
 use Rattle.laying.proofs.Cells.{view-same}
 use Rattle.laying.proofs.Heads.{thread-same}
 use Rattle.seat.specs.Book.{tallyIn, roomIn}
-use Rattle.seat.specs.Turn.{decidedOn, effectIn, effectOn}
+use Rattle.seat.specs.Turn.{decidedOn, askedIn, effectIn, effectOn}
 use Rattle.tying.specs.Tied.{partsOf}
 
 pub room-same : (c : Claim) → Fit c → (e : Effect) → roomIn (tallyIn (laidBook c)) e ≡ room c e
 unfolding room roomIn tallyIn laidBook
 room-same c f (Goes t) = refl
 room-same c f Ends = refl
-room-same c f (Waits l t) = refl
-room-same c f (Fills k l v t) = refl
-room-same c f (Empties l t) = refl
-room-same c f (Makes k n t) = refl
-room-same c f (Spawns new t) = by (eqb (length (c .row)) (c .seat .threads)) refl
+room-same c f (Waits t l) = refl
+room-same c f (Fills t k l v) = refl
+room-same c f (Empties t l) = refl
+room-same c f (Makes t k n) = refl
+room-same c f (Spawns t new) = by (eqb (length (c .row)) (c .seat .threads)) refl
   where
     by : (b : Bool) → eqb (length (c .row)) (c .seat .threads) ≡ b
-        → (if ltb (length (c .row)) (c .seat .threads) then Spawns new t else Refuses noThreadsLeft) ≡ (if b then Refuses noThreadsLeft else Spawns new t)
+        → (if ltb (length (c .row)) (c .seat .threads) then Spawns t new else Refuses noThreadsLeft) ≡ (if b then Refuses noThreadsLeft else Spawns t new)
     by true e = let q = eqb-true (length (c .row)) (c .seat .threads) e in rw (le-ltb (length (c .row)) (c .seat .threads) (omega arith))
     by false e =
         let q = eqb-false (length (c .row)) (c .seat .threads) e in
@@ -56,7 +56,7 @@ decided-same {after = after} see th e h = let q : after % 65536 ≡ after = omeg
 -- a thread that stands at a start of an accepted image
 pub effect-same : (c : Claim) → Fit c → {r n code : ℕ} → readImage (c .image) ≡ Good r n code → Promise (c .image) r n code → (i : ℕ) → i < length (c .row)
     → start (c .image) code (threadAt c i .position) ≡ true → effectOn (c .image) (c .seat .start) (partsOf c) i ≡ effectAt c i
-unfolding effectOn effectIn effectAt tallyIn laidBook
+unfolding effectOn effectIn askedIn effectAt tallyIn laidBook
 effect-same c f e m i l at =
     let w = m .whole (threadAt c i .position) at in
     let a = w .within in

@@ -8,6 +8,7 @@ use Rattle.image.specs.declared.starts.Fault.the-variants.{At}
 use Rattle.image.specs.Reading.{walk}
 use Rattle.image.proofs.Places.{instruction-there}
 use Rattle.image.proofs.Steps.{walk-ended, walk-bad}
+use Rattle.image.proofs.Strides.{stride-ended, stride-bad, stride-next, flow-there}
 use Rattle.image.proofs.Fuel.{walk-again}
 use Rattle.image.proofs.reader.walk_code.Statement.{statement}
 use Rattle.image.proofs.reader.walk_code.Tie as tie
@@ -21,35 +22,37 @@ abbrev μ-loop : tie.MeasureT-loop
 loop-holds : tie.Need-loop-holds Inv-loop μ-loop
 loop-holds c = refl
 
-step-at-requires : tie.Need-step-at-requires Inv-loop μ-loop
-step-at-requires c κs = search needs
+stride-at-requires : tie.Need-stride-at-requires Inv-loop μ-loop
+stride-at-requires c κs = search needs
 
 enum-told : tie.Need-enum-told Inv-loop μ-loop
 enum-told c = search needs
 
 returns : tie.Need-returns Inv-loop μ-loop
-returns c = sym (walk-ended _ _ _ (sym (c .before .before .step-at .ensures) ∙ c .enum-told .given .1) _) ∙ c .before .before .before .loop .inv
+returns c = sym (walk-ended _ _ _ (stride-ended _ _ (sym (c .before .before .stride-at .ensures) ∙ c .enum-told .given .1)) _) ∙ c .before .before .before .loop .inv
 
 enum-told-2 : tie.Need-enum-told-2 Inv-loop μ-loop
 enum-told-2 c = search needs
 
 returns-2 : tie.Need-returns-2 Inv-loop μ-loop
-returns-2 c = sym (walk-bad _ _ _ (sym (c .before .before .step-at .ensures) ∙ c .enum-told2 .given .1) _) ∙ c .before .before .before .loop .inv
+returns-2 c = sym (walk-bad _ _ _ (stride-bad _ _ (sym (c .before .before .stride-at .ensures) ∙ c .enum-told2 .given .1)) _) ∙ c .before .before .before .loop .inv
 
-enum-known-i : tie.Need-enum-known-i Inv-loop μ-loop
-enum-known-i c = search needs
+enum-known-behind : tie.Need-enum-known-behind Inv-loop μ-loop
+enum-known-behind c = search needs
 
-flow-of-requires : tie.Need-flow-of-requires Inv-loop μ-loop
-flow-of-requires c κs = search needs
+flow-at-requires : tie.Need-flow-at-requires Inv-loop μ-loop
+flow-at-requires c κs = search needs
 
 ending-at-requires : tie.Need-ending-at-requires Inv-loop μ-loop
 ending-at-requires c κs = search needs
 
 loop-less : tie.Need-loop-less Inv-loop μ-loop
-loop-less c = omega (arith, instruction-there (sym (c .before .before .before .before .before .step-at .ensures) ∙ c .before .before .before .i .given .1) .passed)
+loop-less c = omega (arith, instruction-there (stride-next _ _ (sym (c .before .before .before .before .before .stride-at .ensures) ∙ c .before .before .before .behind .given .1) .step) .passed)
 
 loop-again : tie.Need-loop-again Inv-loop μ-loop
-loop-again c = walk-again _ _ _ (sym (c .before .before .before .before .before .step-at .ensures) ∙ c .before .before .before .i .given .1) (c .before .flow-of .ensures) (c .ending-at .ensures) ∙ c .before .before .before .before .before .before .loop .inv
+loop-again c =
+    let s = stride-next _ _ (sym (c .before .before .before .before .before .stride-at .ensures) ∙ c .before .before .before .behind .given .1) in
+    walk-again _ _ _ (s .step) (c .before .flow-at .ensures ∙ flow-there _ _ (s .step)) (c .ending-at .ensures) ∙ c .before .before .before .before .before .before .loop .inv
 
 pub walk-code-spec : {M : Type 1} → statement M
 walk-code-spec =
@@ -58,13 +61,13 @@ walk-code-spec =
     Inv-loop
     μ-loop
     loop-holds
-    step-at-requires
+    stride-at-requires
     enum-told
     returns
     enum-told-2
     returns-2
-    enum-known-i
-    flow-of-requires
+    enum-known-behind
+    flow-at-requires
     ending-at-requires
     loop-less
     loop-again)

@@ -1,8 +1,8 @@
--- `image::records::step_at` meets its contract: the body is cut out as the rule cuts it. Assumes nothing.
-use borrow.Author.Needs.{needs}
+-- `image::records::step_at` meets its contract: the body is read as the rule cuts it out. Assumes nothing.
 use mathlib.Core.Path.{sym, _∙_}
 use Rattle.image.specs.Records.{stepped}
-use Rattle.image.proofs.Places.{step-none, step-cut, step-there}
+use Rattle.image.proofs.Places.{step-none, step-cut, step-from}
+use borrow.Author.Needs.{needs}
 use Rattle.image.proofs.records.step_at.Statement.{statement}
 use Rattle.image.proofs.records.step_at.Tie as tie
 
@@ -47,11 +47,11 @@ enum-told c = search needs
 
 returns-3 : tie.Need-returns-3
 unfolding stepped
-returns-3 c = step-there _ _ (c .before .before .before .before .before .before .before .before .if1 .left) _ (c .before .before .before .before .before .before .instruction-size .ensures) _ (c .before .before .before .before .before .if2 .left) (sym (c .before .i .given .1) ∙ c .before .before .before .instruction-meant .ensures)
+returns-3 c = step-from _ _ (c .before .before .before .before .before .before .before .before .if1 .left) _ (c .before .before .before .before .before .before .instruction-size .ensures) _ (c .before .before .before .before .before .if2 .left) (sym (c .before .i .given .1) ∙ c .before .before .before .instruction-meant .ensures)
 
 returns-4 : tie.Need-returns-4
 unfolding stepped
-returns-4 c = step-there _ _ (c .before .before .before .before .before .before .before .if1 .left) _ (c .before .before .before .before .before .instruction-size .ensures) _ (c .before .before .before .before .if2 .left) (sym (c .enum-told .given .1) ∙ c .before .before .instruction-meant .ensures)
+returns-4 c = step-from _ _ (c .before .before .before .before .before .before .before .if1 .left) _ (c .before .before .before .before .before .instruction-size .ensures) _ (c .before .before .before .before .if2 .left) (sym (c .enum-told .given .1) ∙ c .before .before .instruction-meant .ensures)
 
 pub step-at-spec : {M : Type 1} → statement M
 step-at-spec =

@@ -8,6 +8,7 @@ use borrow.Author.Tests.{eq-eqb, ne-eqb}
 use Rattle.image.specs.Reading.{startFrom, start}
 use Rattle.image.proofs.Places.{instruction-there}
 use Rattle.image.proofs.Steps.{start-ended, start-bad, start-here}
+use Rattle.image.proofs.Strides.{stride-ended, stride-bad, stride-next}
 use Rattle.image.proofs.Fuel.{start-on}
 use Rattle.image.proofs.starts.is_start.Statement.{statement}
 use Rattle.image.proofs.starts.is_start.Tie as tie
@@ -25,32 +26,32 @@ loop-holds : tie.Need-loop-holds Inv-loop μ-loop
 unfolding start
 loop-holds c = refl
 
-step-at-requires : tie.Need-step-at-requires Inv-loop μ-loop
-step-at-requires c κs = search needs
+stride-at-requires : tie.Need-stride-at-requires Inv-loop μ-loop
+stride-at-requires c κs = search needs
 
 enum-told : tie.Need-enum-told Inv-loop μ-loop
 enum-told c = search needs
 
 returns : tie.Need-returns Inv-loop μ-loop
-returns c = sym (start-ended _ _ _ (sym (c .before .before .step-at .ensures) ∙ c .enum-told .given .1) _) ∙ c .before .before .before .loop .inv
+returns c = sym (start-ended _ _ _ (stride-ended _ _ (sym (c .before .before .stride-at .ensures) ∙ c .enum-told .given .1)) _) ∙ c .before .before .before .loop .inv
 
 enum-told-2 : tie.Need-enum-told-2 Inv-loop μ-loop
 enum-told-2 c = search needs
 
 returns-2 : tie.Need-returns-2 Inv-loop μ-loop
-returns-2 c = sym (start-bad _ _ _ (sym (c .before .before .step-at .ensures) ∙ c .enum-told2 .given .1) _) ∙ c .before .before .before .loop .inv
+returns-2 c = sym (start-bad _ _ _ (stride-bad _ _ (sym (c .before .before .stride-at .ensures) ∙ c .enum-told2 .given .1)) _) ∙ c .before .before .before .loop .inv
 
 enum-known-behind : tie.Need-enum-known-behind Inv-loop μ-loop
 enum-known-behind c = search needs
 
 returns-3 : tie.Need-returns-3 Inv-loop μ-loop
-returns-3 c = sym (start-here _ _ _ (sym (c .before .before .before .before .step-at .ensures) ∙ c .before .before .behind .given .1) (eq-eqb _ _ (c .if1 .taken)) _) ∙ c .before .before .before .before .before .loop .inv
+returns-3 c = sym (start-here _ _ _ (stride-next _ _ (sym (c .before .before .before .before .stride-at .ensures) ∙ c .before .before .behind .given .1) .step) (eq-eqb _ _ (c .if1 .taken)) _) ∙ c .before .before .before .before .before .loop .inv
 
 loop-less : tie.Need-loop-less Inv-loop μ-loop
-loop-less c = omega (arith, instruction-there (sym (c .before .before .before .before .step-at .ensures) ∙ c .before .before .behind .given .1) .passed)
+loop-less c = omega (arith, instruction-there (stride-next _ _ (sym (c .before .before .before .before .stride-at .ensures) ∙ c .before .before .behind .given .1) .step) .passed)
 
 loop-again : tie.Need-loop-again Inv-loop μ-loop
-loop-again c = sym (start-on _ _ _ (sym (c .before .before .before .before .step-at .ensures) ∙ c .before .before .behind .given .1) (ne-eqb _ _ (c .if1 .left))) ∙ c .before .before .before .before .before .loop .inv
+loop-again c = sym (start-on _ _ _ (stride-next _ _ (sym (c .before .before .before .before .stride-at .ensures) ∙ c .before .before .behind .given .1) .step) (ne-eqb _ _ (c .if1 .left))) ∙ c .before .before .before .before .before .loop .inv
 
 pub is-start-spec : {M : Type 1} → statement M
 is-start-spec =
@@ -60,7 +61,7 @@ is-start-spec =
     μ-loop
     add-place
     loop-holds
-    step-at-requires
+    stride-at-requires
     enum-told
     returns
     enum-told-2

@@ -1,7 +1,7 @@
--- `seat::turn::gate_of` meets its contract. Assumes nothing.
+-- `seat::turn::gate_of` meets its contract, test by test. Assumes nothing.
 use borrow.Author.Needs.{needs}
-use borrow.Author.Tests.{eq-eqb, ne-eqb}
 use Rattle.seat.specs.Turn.{gateOf}
+use borrow.Author.Tests.{eq-eqb, ne-eqb}
 use Rattle.seat.proofs.turn.gate_of.Statement.{statement}
 use Rattle.seat.proofs.turn.gate_of.Tie as tie
 
@@ -13,12 +13,16 @@ returns-2 : tie.Need-returns-2
 unfolding gateOf
 returns-2 c = rw (ne-eqb _ _ (c .before .before .if1 .left), ne-eqb _ _ (c .if2 .taken))
 
+find-ready-requires : tie.Need-find-ready-requires
+find-ready-requires c κs = search needs
+
 gate-by-requires : tie.Need-gate-by-requires
 gate-by-requires c κs = search needs
 
 returns-3 : tie.Need-returns-3
 unfolding gateOf
-returns-3 c = rw (ne-eqb _ _ (c .before .before .before .if1 .left), eq-eqb _ _ (c .before .if2 .left)) (c .gate-by .ensures)
+returns-3 c = rw (ne-eqb _ _ (c .before .before .before .before .if1 .left), eq-eqb _ _ (c .before .before .if2 .left), ← c .before .find-ready .ensures) (c .gate-by .ensures)
 
 pub gate-of-spec : {M : Type 1} → statement M
-gate-of-spec = tie.close (tie.spec returns returns-2 gate-by-requires returns-3)
+gate-of-spec =
+    tie.close (tie.spec returns returns-2 find-ready-requires gate-by-requires returns-3)

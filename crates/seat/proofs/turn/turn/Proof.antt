@@ -1,24 +1,21 @@
--- `seat::turn::turn` meets its contract: the gate, the thread picked, its effect, written. Assumes nothing.
+-- `seat::turn::turn` meets its contract: the gate, the thread picked, and what it asks for, done. Assumes nothing.
 use borrow.Author.Needs.{needs}
-use Rattle.seat.specs.Turn.{parts}
 use Rattle.seat.proofs.Turns.{stopped, gone}
+use Rattle.seat.specs.Turn.{parts}
 use Rattle.seat.proofs.turn.turn.Statement.{statement}
 use Rattle.seat.proofs.turn.turn.Tie as tie
 
 read-book-requires : tie.Need-read-book-requires
 read-book-requires c κs = search needs
 
-find-ready-requires : tie.Need-find-ready-requires
-find-ready-requires c κs = search needs
-
 gate-of-requires : tie.Need-gate-of-requires
 gate-of-requires c κs = search needs
 
-enum-known-g : tie.Need-enum-known-g
-enum-known-g c = search needs
+enum-known-a : tie.Need-enum-known-a
+enum-known-a c = search needs
 
-enum-known-g-2 : tie.Need-enum-known-g-2
-enum-known-g-2 c = search needs
+enum-known-i : tie.Need-enum-known-i
+enum-known-i c = search needs
 
 get64-requires : tie.Need-get64-requires
 get64-requires c κs = search needs
@@ -29,14 +26,11 @@ get64-requires-2 c κs = search needs
 thread-in-requires : tie.Need-thread-in-requires
 thread-in-requires c κs = search needs
 
-effect-in-requires : tie.Need-effect-in-requires
-effect-in-requires c κs = search needs
+asked-requires : tie.Need-asked-requires
+asked-requires c κs = search needs
 
 perform-requires : tie.Need-perform-requires
 perform-requires c κs = search needs
-
-answer-of-requires : tie.Need-answer-of-requires
-answer-of-requires c κs = search needs
 
 same-length : tie.Need-same-length
 same-length c = search needs
@@ -45,7 +39,7 @@ same-length-2 : tie.Need-same-length-2
 same-length-2 c = search needs
 
 returns : tie.Need-returns
-returns c = stopped _ _ _ (parts (c .before .before .before .before .before .before .before .before .before .before .before .before .before .before .args .book .now) (c .before .before .before .before .before .before .before .before .before .before .before .before .before .before .args .tags .now) (c .before .before .before .before .before .before .before .before .before .before .before .before .before .before .args .words .now) (c .before .before .before .before .before .before .before .before .before .before .before .before .before .before .args .heads .now) (c .before .before .before .before .before .before .before .before .before .before .before .before .before .before .args .accs .now)) (c .before .before .before .before .before .before .read-book .ensures) (c .before .before .before .before .find-ready .ensures) (c .before .before .before .gate-of .ensures) (c .before .g .given .1)
+returns c = let s = c .before .before .before .before .before .before .before .before .before .before .before .before .before .args in stopped _ _ _ (parts (s .book .now) (s .tags .now) (s .words .now) (s .heads .now) (s .accs .now)) (c .before .before .before .before .before .read-book .ensures) (c .before .before .before .gate-of .ensures) (c .before .a .given .1)
 
 same-length-3 : tie.Need-same-length-3
 same-length-3 c = search needs
@@ -63,23 +57,21 @@ same-length-7 : tie.Need-same-length-7
 same-length-7 c = search needs
 
 returns-2 : tie.Need-returns-2
-returns-2 c = gone _ _ _ (parts (c .before .before .before .before .before .before .before .before .before .before .before .before .before .before .before .before .before .before .before .before .before .before .before .before .before .before .before .before .before .before .before .before .before .before .before .before .before .before .before .args .book .now) (c .before .before .before .before .before .before .before .before .before .before .before .before .before .before .before .before .before .before .before .before .before .before .before .before .before .before .before .before .before .before .before .before .before .before .before .before .before .before .before .args .tags .now) (c .before .before .before .before .before .before .before .before .before .before .before .before .before .before .before .before .before .before .before .before .before .before .before .before .before .before .before .before .before .before .before .before .before .before .before .before .before .before .before .args .words .now) (c .before .before .before .before .before .before .before .before .before .before .before .before .before .before .before .before .before .before .before .before .before .before .before .before .before .before .before .before .before .before .before .before .before .before .before .before .before .before .before .args .heads .now) (c .before .before .before .before .before .before .before .before .before .before .before .before .before .before .before .before .before .before .before .before .before .before .before .before .before .before .before .before .before .before .before .before .before .before .before .before .before .before .before .args .accs .now)) (c .before .before .before .before .before .before .before .before .before .before .before .before .before .before .before .before .before .before .before .before .before .before .before .before .before .before .before .before .before .before .before .read-book .ensures) (c .before .before .before .before .before .before .before .before .before .before .before .before .before .before .before .before .before .before .before .before .before .before .before .before .before .before .before .before .before .find-ready .ensures) (c .before .before .before .before .before .before .before .before .before .before .before .before .before .before .before .before .before .before .before .before .before .before .before .before .before .before .before .before .gate-of .ensures) (c .before .before .before .before .before .before .before .before .before .before .before .before .before .before .before .before .before .before .before .before .before .before .before .before .before .before .g2 .given .1) (c .before .before .before .before .before .before .before .before .before .before .before .before .before .before .before .before .before .before .before .before .before .before .before .get64 .ensures) (c .before .before .before .before .before .before .before .before .before .before .before .before .before .before .before .before .before .before .before .before .before .get642 .ensures) (c .before .before .before .before .before .before .before .before .before .before .before .before .before .before .before .before .before .before .before .before .thread-in .ensures) (c .before .before .before .before .before .before .before .before .before .before .before .before .before .before .before .before .before .effect-in .ensures) (c .before .before .before .before .before .before .before .before .before .before .before .perform .ensures) (c .answer-of .ensures)
+returns-2 c = let s = c .before .before .before .before .before .before .before .before .before .before .before .before .before .before .before .before .before .before .before .before .before .before .before .before .before .before .before .before .before .before .before .before .before .before .before .before .before .args in gone _ _ _ (parts (s .book .now) (s .tags .now) (s .words .now) (s .heads .now) (s .accs .now)) (c .before .before .before .before .before .before .before .before .before .before .before .before .before .before .before .before .before .before .before .before .before .before .before .before .before .before .before .before .before .read-book .ensures) (c .before .before .before .before .before .before .before .before .before .before .before .before .before .before .before .before .before .before .before .before .before .before .before .before .before .before .before .gate-of .ensures) (c .before .before .before .before .before .before .before .before .before .before .before .before .before .before .before .before .before .before .before .before .before .before .before .before .before .i .given .1) (c .before .before .before .before .before .before .before .before .before .before .before .before .before .before .before .before .before .before .before .before .before .before .get64 .ensures) (c .before .before .before .before .before .before .before .before .before .before .before .before .before .before .before .before .before .before .before .before .get642 .ensures) (c .before .before .before .before .before .before .before .before .before .before .before .before .before .before .before .before .before .before .before .thread-in .ensures) (c .before .before .before .before .before .before .before .before .before .before .before .before .before .before .before .before .asked .ensures) (c .before .before .before .before .before .before .before .before .before .before .perform .ensures)
 
 pub turn-spec : {M : Type 1} → statement M
 turn-spec =
     tie.close
     (tie.spec
     read-book-requires
-    find-ready-requires
     gate-of-requires
-    enum-known-g
-    enum-known-g-2
+    enum-known-a
+    enum-known-i
     get64-requires
     get64-requires-2
     thread-in-requires
-    effect-in-requires
+    asked-requires
     perform-requires
-    answer-of-requires
     same-length
     same-length-2
     returns
