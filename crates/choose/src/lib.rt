@@ -1,6 +1,4 @@
 // What an instruction does, decided over shared slices: one function a family, the tests in the paper's order. Nothing is written.
-pub mod tests;
-
 use kinds::Instruction;
 use numbers::Operation;
 use rules::Effect;
@@ -8,14 +6,15 @@ use rules::Held;
 use rules::Kind;
 use rules::Size;
 use rules::Thread;
-use tests::cell_at;
-use tests::cell_in;
-use tests::integer_of;
-use tests::location_of;
-use tests::size_of;
-use tests::slot_value;
-use tests::truth_of;
-use tests::with_first;
+use slots::Standing;
+use slots::cell_at;
+use slots::cell_in;
+use slots::integer_of;
+use slots::location_of;
+use slots::size_of;
+use slots::slot_value;
+use slots::truth_of;
+use slots::with_first;
 use value::Value;
 use value::refusals::CELL_FULL;
 use value::wanted::Answer;
@@ -28,14 +27,6 @@ ghost use Rattle.cells.specs.Lent.{freshOn, viewOn};
 ghost use Rattle.value.specs.declared.Value.the-variants.{Nil, Location};
 ghost use Rattle.rules.specs.declared.Effect.the-variants.{Goes, Waits, Fills, Makes, Spawns};
 ghost use Rattle.rules.specs.Decide.{View, thread, ifFull, ifEmpty, gives, again, fetches, stores, allocates, decide};
-
-// Where a thread stands: its seat's used cells and the start of their region, the position behind its instruction, and the thread.
-pub struct Standing {
-    pub used: u32,
-    pub start: u32,
-    pub after: u16,
-    pub thread: Thread,
-}
 
 // The thread on its way, at a position with an accumulator.
 fn moved_to(position: u16, th: Thread, acc: Value) -> Thread

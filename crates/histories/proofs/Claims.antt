@@ -14,7 +14,7 @@ use Rattle.soundness.specs.Events.{ByteEvent}
 use Rattle.soundness.proofs.Machines.{sound-opened, sound-kept, sound-run}
 use Rattle.state.specs.State.{State, long, laid, machineOf, stateSound}
 use Rattle.state.proofs.Stands.{machine-laid, stands-laid, sound-stands, stands-sound}
-use Rattle.machine.specs.Calls.{numberIn, sharesIn, Moved, Ran, ranOn, saidTo, clearCall, loadedIn, loadCall}
+use Rattle.calls.specs.Calls.{numberIn, sharesIn, Moved, Ran, ranOn, saidTo, clearCall, loadedIn, loadCall}
 use Rattle.histories.proofs.Ends.{Opens, Runs, load-ends, clear-ends}
 
 -- s is sound, and these are the claims in it

@@ -18,8 +18,8 @@ use Rattle.rules.specs.Claim.{Claim, statusOf, readyCount, seek}
 use Rattle.rules.specs.Turn.{answerOf, effectAt, isRunning, Turned, ran, turn}
 use Rattle.rules.specs.Calls.{Machine, claimAt, Event, picks, loads, asks, clears, Loading, loadBy, load, clear, hear, Message, message, Told, tell, absent, opened, mayOpen}
 use Rattle.state.specs.State.{State, long, laid, machineOf, stateSound, claimsOf}
-use Rattle.machine.specs.Calls as Calls
-use Rattle.machine.specs.Calls.{numberIn, sharesIn, Moved, moved, Ran, openCall, ranOn, runWith, runCall, saidTo, clearWith, clearCall, loadedIn, loadWith, loadCall, shownIn, reportWith, reportCall}
+use Rattle.calls.specs.Calls as Calls
+use Rattle.calls.specs.Calls.{numberIn, sharesIn, Moved, moved, Ran, openCall, ranOn, runWith, runCall, saidTo, clearWith, clearCall, loadedIn, loadWith, loadCall, shownIn, reportWith, reportCall}
 
 -- ---- an opening
 

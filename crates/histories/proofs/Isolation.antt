@@ -17,7 +17,7 @@ use Rattle.state.specs.State.{State, machineOf, claimsOf}
 use Rattle.state.specs.Seats.{baseOf}
 use Rattle.state.proofs.Stands.{sound-stands}
 use Rattle.state.proofs.Pieces.{seat-at}
-use Rattle.machine.specs.Calls.{numberIn, placeIn, reportIn, over, shown, ranOn, runWith, runCall, loadedIn, loadCall, clearCall, saidTo, shownIn, reportCall}
+use Rattle.calls.specs.Calls.{numberIn, placeIn, reportIn, over, shown, ranOn, runWith, runCall, loadedIn, loadCall, clearCall, saidTo, shownIn, reportCall}
 use Rattle.histories.specs.History.{Call, after, sharesOf, logOf, traceOf, spoken, Bytes}
 use Rattle.histories.specs.Agree.{bytesOf, Agree}
 use Rattle.histories.proofs.Ends.{runNumber, run-number, load-ends, clear-ends, report-ends}

@@ -9,7 +9,7 @@ use borrow.Author.Tests.{eqb-false}
 use Rattle.laws.specs.Lists.{all, isNone}
 use Rattle.laws.proofs.Every.{All}
 use Rattle.state.specs.State.{State, machineOf, stateSound}
-use Rattle.machine.specs.Calls.{Moved, openCall, runCall, loadCall, clearCall, reportCall}
+use Rattle.calls.specs.Calls.{Moved, openCall, runCall, loadCall, clearCall, reportCall}
 use Rattle.histories.specs.History.{Call, after, sharesOf, Bytes}
 use Rattle.histories.proofs.Ends.{Opens, open-ends, run-ends, run-32, load-32, clear-32, report-32}
 use Rattle.histories.proofs.Claims.{Holds, opens-holds, runs-holds, load-holds, clear-holds}

@@ -13,7 +13,7 @@ use Rattle.rules.specs.Events.{replied, changes}
 use Rattle.rules.proofs.Steps.{hear-still}
 use Rattle.state.specs.State.{State, laid, machineOf, stateSound, claimsOf}
 use Rattle.state.proofs.Stands.{sound-stands}
-use Rattle.machine.specs.Calls.{numberIn, Moved, Ran, openCall, ranOn, runWith, runCall, saidTo, clearWith, clearCall, loadedIn, loadWith, loadCall}
+use Rattle.calls.specs.Calls.{numberIn, Moved, Ran, openCall, ranOn, runWith, runCall, saidTo, clearWith, clearCall, loadedIn, loadWith, loadCall}
 use Rattle.histories.proofs.Ends.{Opens, open-ends, Runs, run-ends, load-ends, clear-ends}
 
 same-number : (r : Reply) → numberIn r ≡ replied r

@@ -12,7 +12,7 @@ use Rattle.rules.specs.Calls.{loads, clears, Message, message, entries, Share}
 use Rattle.rules.specs.Calls as Rules
 use Rattle.rules.specs.History.{Happening, opens, says, machineAfter, sharesAfter}
 use Rattle.state.specs.State.{State}
-use Rattle.machine.specs.Calls.{sharesIn, Moved, openCall, runCall}
+use Rattle.calls.specs.Calls.{sharesIn, Moved, openCall, runCall}
 use Rattle.histories.specs.History.{Call, opening, running, loading, reporting, clearing, after, sharesOf, Bytes}
 use Rattle.histories.proofs.Ends.{Opens, open-ends, run-ends}
 use Rattle.histories.proofs.Claims.{Holds, opens-holds, load-holds, clear-holds, runs-holds}

@@ -4,7 +4,7 @@ use mathlib.Core.Path.{_≡_, sym, ap, _∙_}
 use mathlib.Core.List.{List}
 use Rattle.rules.specs.declared.Report.{Report}
 use Rattle.state.specs.State.{State}
-use Rattle.machine.specs.Calls.{Moved, moved, Ran, ran, Loaded, loaded, Shown, shown, openCall, runCall, loadCall, clearCall, reportCall}
+use Rattle.calls.specs.Calls.{Moved, moved, Ran, ran, Loaded, loaded, Shown, shown, openCall, runCall, loadCall, clearCall, reportCall}
 
 -- ---- whole outcomes
 

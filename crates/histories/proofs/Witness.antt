@@ -19,7 +19,7 @@ use Rattle.rules.specs.Sheets.{share, int}
 use Rattle.rules.proofs.Worked.{compute}
 use Rattle.state.specs.State.{State, state, long}
 use Rattle.state.proofs.Stands.{enough-long}
-use Rattle.machine.specs.Calls.{sharesIn, Shown, shown, openCall, reportCall}
+use Rattle.calls.specs.Calls.{sharesIn, Shown, shown, openCall, reportCall}
 use Rattle.histories.specs.History.{Call, opening, running, loading, after, sharesOf, Bytes}
 use Rattle.histories.specs.Agree.{Agree}
 use Rattle.histories.proofs.Ends.{run-number}

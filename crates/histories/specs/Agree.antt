@@ -7,7 +7,7 @@ use Rattle.rules.specs.Calls.{claimAt}
 use Rattle.laying.specs.Laid.{Parts}
 use Rattle.state.specs.State.{State, machineOf}
 use Rattle.state.specs.Seats.{baseOf, partsAt}
-use Rattle.machine.specs.Calls.{runCall, loadCall, clearCall, reportCall}
+use Rattle.calls.specs.Calls.{runCall, loadCall, clearCall, reportCall}
 use Rattle.histories.specs.History.{Call, after, logOf}
 
 -- seat k's bytes in each of the six buffers, its cells where the shares before it end

@@ -10,7 +10,7 @@ use Rattle.rules.specs.Claim.{Claim}
 use Rattle.rules.specs.Calls.{Event, picks, loads, Share, hear}
 use Rattle.rules.specs.History.{replay}
 use Rattle.state.specs.State.{State}
-use Rattle.machine.specs.Calls.{numberIn, sharesIn, openCall, runCall, loadCall, clearCall}
+use Rattle.calls.specs.Calls.{numberIn, sharesIn, openCall, runCall, loadCall, clearCall}
 
 -- a call, with what it is lent beside the state
 pub data Call : Type 0 where

@@ -20,7 +20,7 @@ use Rattle.rules.specs.Sound.{isEmpty, placeSound, liveSound, refusalSound}
 use Rattle.soundness.proofs.Cells.{CellsSound}
 use Rattle.cells.specs.Lent.{slotAt, lookOn}
 use Rattle.threads.specs.Heads.{placeIn, readyPlace}
-use Rattle.seat.specs.declared.book.Tally.{Tally}
+use Rattle.book.specs.declared.Tally.{Tally}
 use Rattle.laying.specs.Laid.{cellTag, cellWord}
 use Rattle.laying.specs.Back.{unspread, placeRead, liveRead}
 use Rattle.laying.proofs.Spread.{spread-get}

@@ -20,8 +20,8 @@ use Rattle.rules.specs.Turn.{codeOf}
 use Rattle.rules.specs.Sound.{cellSound, liveSound, refusalSound, claimSound, isBare, seatSound}
 use Rattle.soundness.proofs.Claims.{stands-sound, used-seat}
 use Rattle.lent.specs.Runs.{isZero}
-use Rattle.seat.specs.declared.book.Tally.{Tally}
-use Rattle.seat.specs.Book.{tallyIn}
+use Rattle.book.specs.declared.Tally.{Tally}
+use Rattle.book.specs.Book.{tallyIn}
 use Rattle.laying.specs.Laid.{Parts, cellTag, cellWord, headNumber, accNumber}
 use Rattle.laying.specs.Back.{unspread, canonical, cellRead, liveRead, claimIn, wellLaid}
 use Rattle.laying.proofs.Pairs.{Written, back}

@@ -1,3 +1,2 @@
-pub mod Report
-pub mod Sound
 pub mod Tests
+pub mod Sound

@@ -18,8 +18,8 @@ use Rattle.rules.specs.Sound.{cellSound, isEmpty}
 use Rattle.lent.specs.Runs.{isZero}
 use Rattle.cells.specs.Lent.{lookOn}
 use Rattle.threads.specs.Heads.{placeIn, readyPlace}
-use Rattle.seat.specs.declared.book.Tally.{Tally}
-use Rattle.seat.specs.Book.{tallyIn}
+use Rattle.book.specs.declared.Tally.{Tally}
+use Rattle.book.specs.Book.{tallyIn}
 use Rattle.laying.specs.Laid.{Parts, cellTag, cellWord, headNumber, accNumber}
 use Rattle.laying.specs.Back.{unspread, canonical, cellRead, placeRead, liveRead}
 use Rattle.inspection.specs.declared.sound.Ground.{Ground}

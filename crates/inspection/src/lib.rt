@@ -1,3 +1,2 @@
-// One seat's parts of the lent buffers looked at: its report, and whether they are those of a sound claim.
-pub mod report;
+// Whether one seat's parts of the lent buffers are those of a sound claim.
 pub mod sound;

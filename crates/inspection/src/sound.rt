@@ -1,4 +1,5 @@
 // Whether a seat's parts of the lent buffers are those of a sound claim: every clause of document 01, and zero wherever nothing is held.
+use book::Tally;
 use image::reader;
 use image::reader::Verdict;
 use image::starts;
@@ -9,8 +10,6 @@ use lent::is_bare16;
 use lent::is_bare64;
 use lent::is_bytes;
 use rules::Slot;
-use seat::book;
-use seat::book::Tally;
 use value::coding;
 use value::coding::Decoded;
 ghost use mathlib.Core.Path.{_≡_};

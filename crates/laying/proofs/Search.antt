@@ -1,12 +1,12 @@
 -- The search of a laid row finds the thread that the rules pick. Assumes nothing.
-use Prim.Native.Nat.{ℕ, zero, suc, _+_, _-_, _≤_, _<_}
+use Prim.Native.Nat.{ℕ, zero, suc, _+_, _-_}
 use native.Mathlib.Nat.{zero-add}
 use native.Mathlib.Omega.{arith}
 use mathlib.Core.Path.{_≡_, refl, ap}
 use mathlib.Core.Bool.{Bool, true, false}
 use mathlib.Core.List.{List, [], _∷_, _++_, map}
 use lib.Dec.{ltb, eqb}
-use lib.ListN.{length, replicate}
+use lib.ListN.{length, take, replicate}
 use borrow.Author.Tests.{eq-eqb, ne-eqb, lt-ltb, le-ltb, ltb-true, ltb-false}
 use Rattle.laws.specs.Choice.{if_then_else_}
 use Rattle.laws.proofs.Every.{All, all-cons}
@@ -69,13 +69,17 @@ found-row (t ∷ ts) z i n (suc j) (all-cons p h) = rw (is-ready t p) (by (isRea
         rw (ne-eqb n (n + suc j) (λ w. omega arith), q) (rw (ltb-suc j (count ts), u, v) e)
     by false e f = let q : i + 1 + seek ts (suc j) ≡ i + suc (seek ts (suc j)) = omega arith in rw q at f
 
+-- as many heads as there are records are the records' own
+taken : (row : List Live) (zs : List ℕ) → take (length row) (map headNumber row ++ zs) ≡ map headNumber row ++ []
+taken [] zs = refl
+taken (t ∷ ts) zs = ap (λ (hs : List ℕ). headNumber t ∷ hs) (taken ts zs)
+
 module _ (c : Claim) (f : Fit c) (pick : ℕ) where
   pub found-same : foundFrom pick 0 0 (spread headNumber 32 (c .row)) ≡ (if ltb pick (readyCount c) then At (seek (c .row) pick) else Ready (readyCount c))
   unfolding spread readyCount
   found-same = simp zero-add at (found-row (c .row) (32 - length (c .row)) 0 0 pick (all-placed c f))
 
-  pub found-at : pick < readyCount c → foundFrom pick 0 0 (spread headNumber 32 (c .row)) ≡ At (seek (c .row) pick)
-  found-at h = rw (found-same, lt-ltb pick (readyCount c) h)
-
-  pub found-ready : readyCount c ≤ pick → foundFrom pick 0 0 (spread headNumber 32 (c .row)) ≡ Ready (readyCount c)
-  found-ready h = rw (found-same, le-ltb pick (readyCount c) h)
+  -- so does the search of the live records alone
+  pub live-found : foundFrom pick 0 0 (take (length (c .row)) (spread headNumber 32 (c .row))) ≡ (if ltb pick (readyCount c) then At (seek (c .row) pick) else Ready (readyCount c))
+  unfolding spread readyCount
+  live-found = rw (taken (c .row) (replicate (32 - length (c .row)) 0)) (simp zero-add at (found-row (c .row) 0 0 0 pick (all-placed c f)))

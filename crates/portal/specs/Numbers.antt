@@ -4,7 +4,7 @@ use Rattle.value.specs.Coding.{tagOf, wordOf}
 use Rattle.rules.specs.declared.Outcome.{Outcome}
 use Rattle.rules.specs.declared.Outcome.the-variants.{Nothing, Is}
 use Rattle.rules.specs.Claim.{statusNumber}
-use Rattle.machine.specs.Calls.{Shown}
+use Rattle.calls.specs.Calls.{Shown}
 use Rattle.portal.specs.declared.Told.{Told}
 
 -- the tag of a result's value: 1 integer, 2 float, 3 boolean, 4 nil, 5 location; 0 is none, which differs from nil

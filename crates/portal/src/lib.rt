@@ -1,17 +1,12 @@
 // The five public calls for C and Rust: thin exports, numbers only. A slice goes as a pointer and a length.
-use desk::clearing;
-use desk::loading;
-use desk::opening;
-use desk::reporting;
-use desk::reporting::Reported;
-use machine::running;
+use reporting::Reported;
 use rules::Outcome;
 use rules::Status;
 use value::coding;
 ghost use mathlib.Core.Path.{_≡_};
 ghost use Rattle.rules.specs.Claim.{statusNumber};
 ghost use Rattle.state.specs.State.{state};
-ghost use Rattle.machine.specs.Calls as Calls;
+ghost use Rattle.calls.specs.Calls as Calls;
 ghost use Rattle.portal.specs.Numbers.{kindOf, bitsOf, toldAs};
 
 // A load's answer: its number, and the place of a bad image.

@@ -1,3 +1,3 @@
 pub mod Search
-pub mod Laying
+pub mod Fours
 pub mod Parts

@@ -12,7 +12,11 @@ use Rattle.laws.specs.Choice.{if_then_else_}
 use Rattle.threads.specs.declared.Found.the-variants.{At, Ready}
 use Rattle.threads.specs.Heads.{readyPlace}
 use Rattle.rows.specs.declared.Thread.{Thread}
-use Rattle.rows.specs.Row.{bare, foundIn}
+use Rattle.rows.specs.Row.{foundIn}
+
+-- what is read behind a row's end
+abbrev pub bare : Thread
+bare = record { place = 0; position = 0; frame = 0; tag = 0 }
 
 held : (b : Bool) → T b → b ≡ true
 held true h = refl

@@ -1,11 +1,11 @@
 // The search through a row of thread records that are structs: a head's four fields, the row laid out from heads, and the picked ready record.
+use lent::get64;
 use threads::Found;
-use threads::find_ready;
+use threads::low16;
 ghost use mathlib.Core.Path.{_≡_};
-ghost use Prim.Native.Nat.{_≤_, _%_};
-ghost use lib.ListN.{length};
+ghost use lib.ListN.{take};
 ghost use Rattle.threads.specs.Row.{foundFrom};
-ghost use Rattle.rows.specs.Row.{threadOf, bareRow, laidOver, foundIn};
+ghost use Rattle.rows.specs.Row.{threadOf, fourOf, foundIn};
 
 // A head's four fields, from the low end.
 pub struct Thread {
@@ -13,12 +13,6 @@ pub struct Thread {
     pub position: u16,
     pub frame: u16,
     pub tag: u16,
-}
-
-fn low16(x: u64) -> u16
-    ensures { λ r. ⌜ r ≡ x % 65536 ⌝ }
-{
-    (x % 65536) as u16
 }
 
 fn thread_of(head: u64) -> Thread
@@ -53,38 +47,50 @@ pub fn find_in(row: &[Thread], pick: usize) -> Found
 }
 
 // The same on a row that is a local: it is lent whole.
-pub fn find_row(row: [Thread; 32], pick: usize) -> Found
+pub fn find_row(row: [Thread; 4], pick: usize) -> Found
     ensures { λ r. ⌜ r ≡ foundIn pick 0 0 row ⌝ }
 {
     find_in(&row, pick)
 }
 
-// The heads as structs, over a bare row.
-fn laid(heads: &[u64]) -> [Thread; 32]
-    requires { ⌜ length (now heads) ≤ 32 ⌝ }
-    ensures { λ r. ⌜ r ≡ laidOver (now (heads .entry)) (bareRow 32) ⌝ }
+// The first four heads as structs, which are a copy of them.
+fn four(heads: &[u64]) -> [Thread; 4]
+    ensures { λ r. ⌜ r ≡ fourOf (now (heads .entry)) ⌝ }
 {
-    let bare = Thread {
-        place: 0,
-        position: 0,
-        frame: 0,
-        tag: 0,
-    };
-    let mut row = [bare; 32];
-    let mut k: usize = 0;
-    while k < heads.len() {
-        row[k] = thread_of(heads[k]);
-        k += 1;
-    }
-    row
+    [
+        thread_of(get64(heads, 0)),
+        thread_of(get64(heads, 1)),
+        thread_of(get64(heads, 2)),
+        thread_of(get64(heads, 3)),
+    ]
 }
 
-// The pick-th ready record of heads, by way of the structs; a longer row is searched as it stands.
-pub fn find(heads: &[u64], pick: usize) -> Found
+// The pick-th ready record of heads, by way of the structs, four at a time.
+fn find(heads: &[u64], pick: usize) -> Found
     ensures { λ r. ⌜ r ≡ foundFrom pick 0 0 (now (heads .entry)) ⌝ }
 {
-    if 32 < heads.len() {
-        return find_ready(heads, pick);
+    let mut i: usize = 0;
+    let mut before: usize = 0;
+    while i < heads.len() {
+        match find_row(four(&heads[i..]), pick - before) {
+            Found::At(k) => {
+                return Found::At(i + k);
+            }
+            Found::Ready(k) => {
+                before += k;
+            }
+        }
+        i += 4;
     }
-    find_row(laid(heads), pick)
+    Found::Ready(before)
+}
+
+// The pick-th ready record of the live ones.
+pub fn find_live(heads: &[u64], live: usize, pick: usize) -> Found
+    ensures { λ r. ⌜ r ≡ foundFrom pick 0 0 (take live (now (heads .entry))) ⌝ }
+{
+    if heads.len() <= live {
+        return find(heads, pick);
+    }
+    find(&heads[..live], pick)
 }

@@ -23,7 +23,8 @@ fn wide(x: u16) -> u64
     x as u64
 }
 
-fn low16(x: u64) -> u16
+// The low sixteen bits.
+pub fn low16(x: u64) -> u16
     ensures { λ r. ⌜ r ≡ x % 65536 ⌝ }
 {
     (x % 65536) as u16

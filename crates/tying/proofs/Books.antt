@@ -16,8 +16,8 @@ use Rattle.laying.specs.Laid.{laidBook}
 use Rattle.laying.proofs.Fitting.{Fit, Roomy, live-32}
 use Rattle.laying.proofs.Cells.{tags-same, words-same}
 use Rattle.laying.proofs.Rows.{row-same}
-use Rattle.seat.specs.Book.{tallyIn, bookWith, sumOr, narrow, tallyAfter}
-use Rattle.seat.specs.Turn.{parts, performed}
+use Rattle.book.specs.Book.{tallyIn, bookWith, sumOr, narrow, tallyAfter}
+use Rattle.effects.specs.Enacted.{parts, performed}
 use Rattle.tying.specs.Tied.{partsOf}
 
 sum-is : (a b : ℕ) → a + b ≤ 4294967295 → sumOr a b ≡ a + b

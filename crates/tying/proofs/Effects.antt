@@ -25,8 +25,8 @@ use Rattle.laying.specs.Laid.{laidBook}
 use Rattle.laying.proofs.Fitting.{Fit}
 use Rattle.laying.proofs.Cells.{view-same}
 use Rattle.laying.proofs.Heads.{thread-same}
-use Rattle.seat.specs.Book.{tallyIn, roomIn}
-use Rattle.seat.specs.Turn.{decidedOn, askedIn, effectIn, effectOn}
+use Rattle.book.specs.Book.{tallyIn, roomIn}
+use Rattle.turn.specs.Turn.{decidedOn, askedIn, effectIn, effectOn}
 use Rattle.tying.specs.Tied.{partsOf}
 
 pub room-same : (c : Claim) → Fit c → (e : Effect) → roomIn (tallyIn (laidBook c)) e ≡ room c e

@@ -26,8 +26,8 @@ use Rattle.laying.proofs.Cells.{at-cell}
 use Rattle.laying.proofs.Heads.{thread-same}
 use Rattle.laying.proofs.Search.{found-same}
 use Rattle.laying.proofs.Fits.{Seated, fits}
-use Rattle.seat.specs.Book.{tallyIn}
-use Rattle.inspection.specs.Report.{standing, statusIn, outcomeIn, positionIn, reportBy, reportOn}
+use Rattle.book.specs.Book.{tallyIn}
+use Rattle.reports.specs.Report.{standing, statusIn, outcomeIn, positionIn, reportBy, reportOn}
 use Rattle.tying.proofs.Turns.{none-length}
 
 -- a sound seat's refusal, vacant or not

@@ -5,7 +5,7 @@ use mathlib.Core.Path.{_≡_, refl, ap}
 use mathlib.Core.Bool.{Bool, true, false, not}
 use mathlib.Core.List.{List, [], _∷_}
 use lib.Dec.{ltb, eqb}
-use lib.ListN.{length}
+use lib.ListN.{length, take}
 use borrow.Author.Tests.{ne-eqb, eqb-true, eqb-false, ltb-true, lt-ltb, le-ltb}
 use Rattle.laws.specs.Choice.{if_then_else_}
 use Rattle.laws.specs.Lists.{isNone}
@@ -21,12 +21,13 @@ use Rattle.soundness.proofs.Rows.{seek-picked}
 use Rattle.threads.specs.Row.{foundFrom}
 use Rattle.laying.specs.Laid.{spread, headNumber, laidBook}
 use Rattle.laying.proofs.Fitting.{Fit, has-room}
-use Rattle.laying.proofs.Search.{found-same}
+use Rattle.laying.proofs.Search.{live-found}
 use Rattle.laying.proofs.Fits.{Seated, fits}
-use Rattle.seat.specs.declared.turn.Gate.{Gate}
-use Rattle.seat.specs.declared.turn.Gate.the-variants.{Go, Stop}
-use Rattle.seat.specs.Book.{tallyIn}
-use Rattle.seat.specs.Turn.{Parts, Turned, turned, gateBy, gateOf, passed, turnOn}
+use Rattle.turn.specs.declared.Gate.{Gate}
+use Rattle.turn.specs.declared.Gate.the-variants.{Go, Stop}
+use Rattle.book.specs.Book.{tallyIn}
+use Rattle.effects.specs.Enacted.{Parts, Turned, turned}
+use Rattle.turn.specs.Turn.{gateBy, gateOf, passed, turnOn}
 use Rattle.tying.specs.Tied.{partsOf}
 use Rattle.tying.proofs.Effects.{effect-same}
 use Rattle.tying.proofs.Books.{perform-same}
@@ -53,23 +54,23 @@ gateFor c pick =
 
 module _ (c : Claim) (f : Fit c) (pick : ℕ) where
   abbrev Same : Type 0
-  Same = gateOf (tallyIn (laidBook c)) (foundFrom pick 0 0 (spread headNumber 32 (c .row))) ≡ gateFor c pick
+  Same = gateOf (tallyIn (laidBook c)) (foundFrom pick 0 0 (take (tallyIn (laidBook c) .live) (spread headNumber 32 (c .row)))) ≡ gateFor c pick
 
   module _ (n : isNone (c .image) ≡ false) (z : eqb (c .refusal) 0 ≡ true) where
     by-count : ltb pick (readyCount c) ≡ false → (b : Bool) → eqb (readyCount c) 0 ≡ b → Same
     unfolding gateOf gateBy gateFor tallyIn laidBook statusOf isRunning
     by-count q true y =
         let w = eqb-true (readyCount c) 0 y in
-        rw (none-length (c .image), n, z, found-same c f pick, q, y, le-ltb 0 (readyCount c) (omega arith), idle (isNone (c .row)))
+        rw (none-length (c .image), n, z, live-found c f pick, q, y, le-ltb 0 (readyCount c) (omega arith), idle (isNone (c .row)))
     by-count q false y =
         let w = eqb-false (readyCount c) 0 y in
-        rw (none-length (c .image), n, z, found-same c f pick, q, y, lt-ltb 0 (readyCount c) (omega arith))
+        rw (none-length (c .image), n, z, live-found c f pick, q, y, lt-ltb 0 (readyCount c) (omega arith))
 
     by-pick : (b : Bool) → ltb pick (readyCount c) ≡ b → Same
     unfolding gateOf gateBy gateFor tallyIn laidBook statusOf isRunning
     by-pick true q =
         let k = ltb-true pick (readyCount c) q in
-        rw (none-length (c .image), n, z, found-same c f pick, q, lt-ltb 0 (readyCount c) (omega arith))
+        rw (none-length (c .image), n, z, live-found c f pick, q, lt-ltb 0 (readyCount c) (omega arith))
     by-pick false q = by-count q (eqb (readyCount c) 0) refl
 
   by-refusal : isNone (c .image) ≡ false → (b : Bool) → eqb (c .refusal) 0 ≡ b → Same
@@ -82,7 +83,7 @@ module _ (c : Claim) (f : Fit c) (pick : ℕ) where
   by-image true e = rw (none-length (c .image), e)
   by-image false e = by-refusal e (eqb (c .refusal) 0) refl
 
-  pub gate-same : gateOf (tallyIn (laidBook c)) (foundFrom pick 0 0 (spread headNumber 32 (c .row))) ≡ gateFor c pick
+  pub gate-same : gateOf (tallyIn (laidBook c)) (foundFrom pick 0 0 (take (tallyIn (laidBook c) .live) (spread headNumber 32 (c .row)))) ≡ gateFor c pick
   gate-same = by-image (isNone (c .image)) refl
 
   ran-same : InUse c → pick < readyCount c → c .steps < 4294967295 → passed (Go (seek (c .row) pick)) (c .image) (c .seat .start) (partsOf c) ≡ told (ran c (seek (c .row) pick))

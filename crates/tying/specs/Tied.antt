@@ -1,7 +1,7 @@
 -- The parts of a seat that a turn writes, for a claim laid out in them. Assumes nothing.
 use Rattle.rules.specs.Claim.{Claim}
 use Rattle.laying.specs.Laid.{spread, cellTag, cellWord, headNumber, accNumber, laidBook}
-use Rattle.seat.specs.Turn.{Parts, parts}
+use Rattle.effects.specs.Enacted.{Parts, parts}
 
 abbrev pub partsOf : Claim → Parts
 partsOf c =

@@ -1,10 +1,6 @@
 // The worked sheets of document 01, each run through the public calls and compared with every fact that 01 writes of it.
-use desk::loading;
-use desk::opening;
-use desk::reporting;
-use desk::reporting::Reported;
 use lodging::Answer;
-use machine::running;
+use reporting::Reported;
 use rules::Outcome;
 use rules::Report;
 use rules::Status;

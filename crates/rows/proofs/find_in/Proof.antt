@@ -47,8 +47,8 @@ use Rattle.threads.specs.Heads.{readyPlace}
 use Rattle.threads.proofs.Found as G
 use Rattle.threads.proofs.Found.Laws as G′
 use Rattle.rows.specs.declared.Thread.{Thread}
-use Rattle.rows.specs.Row.{bare, foundIn}
-use Rattle.rows.proofs.Search.{Sought, search-start, search-inside, search-here, search-more, search-past, search-end}
+use Rattle.rows.specs.Row.{foundIn}
+use Rattle.rows.proofs.Search.{bare, Sought, search-start, search-inside, search-here, search-more, search-past, search-end}
 use Rattle.rows.proofs.Parts.{later, now, arm}
 use Rattle.rows.proofs.Thread as T
 use Rattle.rows.proofs.Thread.Laws as T′

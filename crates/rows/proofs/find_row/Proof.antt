@@ -62,10 +62,10 @@ use Rattle.rows.proofs.find_row.Code as code
 
 -- the array's type, as the logic has it and as a local of the body has it
 abbrev Row : RattleType
-Row = Array T.the-row 32
+Row = Array T.the-row 4
 
 abbrev rowTy : Ty
-rowTy = tyArray T′.mir 32
+rowTy = tyArray T′.mir 4
 
 abbrev slice : Ty
 slice = sliceTy (tyRef erased imm (pointee (T.the-row .written)))
@@ -83,7 +83,7 @@ module _ {M : Type 1} (𝓤 : URA M) (H : Heap 𝓤) (A : Atoms 𝓤) (W : Given
   mach = arrayVal (map (λ d. LL.val T.the-type T′.the-laws d) xs)
 
   module _ (p : Is Row xs (mach ∷ [])) where
-    len : length xs ≡ 32
+    len : length xs ≡ 4
     len = p .1 .0 .1
 
     room : Room T.the-row (length xs)
@@ -96,7 +96,7 @@ module _ {M : Type 1} (𝓤 : URA M) (H : Heap 𝓤) (A : Atoms 𝓤) (W : Given
     exits r u is e =
         qed W [] ∵ suffices ! _ (ends-at 𝓤 H A f.ended stayed (f.clauses 𝓤 H A mem run) W ((tt, tt, tt, (xs, (k, tt)), (mach ∷ [], (vint w64 k ∷ [], tt))), tt) u r (tt, (tt, tt)) (tt, (tt, tt))) $ says ! e $
         owned ! G.the-row (Is G.the-row) (EL.makes G.the-type G′.the-plain 𝓤 H A) r (u ∷ []) is $ nothing ! $ owned ! usize (Is usize) (uint-makes 𝓤 H A W w64) k (vint w64 k ∷ []) (refl, gk) $ fjoin ! $
-        owned ! Row (Is Row) (array-makes 𝓤 H A W T.the-row (LL.makes T.the-type T′.the-plain 𝓤 H A) 32) xs (mach ∷ []) p $ fjoin ! $ nothing ! $ done !
+        owned ! Row (Is Row) (array-makes 𝓤 H A W T.the-row (LL.makes T.the-type T′.the-plain 𝓤 H A) 4) xs (mach ∷ []) p $ fjoin ! $ nothing ! $ done !
 
     -- the call of `find_in`: what it is passed, what it asks, and what is known of its result
     module _ (κ : Lft) (b : ℕ) (γ : GName) where
@@ -119,7 +119,7 @@ module _ {M : Type 1} (𝓤 : URA M) (H : Heap 𝓤) (A : Atoms 𝓤) (W : Given
 
     module _ (C : Calls 𝓤 H) (Λ : Loops 𝓤 H) (fm : FmC 𝓤 H (W .laws) C) (known : Triple 𝓤 (C #rows·find-in) (FindIn 𝓤 H A mem run)) where
       typed : IsTrue (hasTy rowTy mach) × WT mach
-      typed = array-typed T.the-row (LL.lawful T.the-type T′.the-laws 𝓤 H A W .typed) 32 xs (mach ∷ []) p .0
+      typed = array-typed T.the-row (LL.lawful T.the-type T′.the-laws 𝓤 H A W .typed) 4 xs (mach ∷ []) p .0
 
       walk : ent 𝓤 (onEntry 𝓤 H A f.signature tt tt (xs, (k, tt)) (mach ∷ [], (vint w64 k ∷ [], tt))) (WpFn 𝓤 H C Λ code.function (mach ∷ vint w64 k ∷ []) Post)
       walk =
@@ -131,9 +131,9 @@ module _ {M : Type 1} (𝓤 : URA M) (H : Heap 𝓤) (A : Atoms 𝓤) (W : Given
           assigns ! (agg ! (and-then ! (load ! (from ! (stop !)) (look ! 2 refl)) (and-then ! (lit ! tt) (no-more !)))) (from ! (stop !)) (init ! 0 refl (tt, (tt, (record { fits = lit< tt }, tt)))) $
           rewrite ! 0 (λ (m : ℕ). ‵ (fat fullShare slice l₅ 0 (sliceVal (l₃, 0) m))) (sym len) refl $
           -- the array in memory is a row of records, which is lent for a lifetime that is made here
-          owned ! Row (Is Row) (array-makes 𝓤 H A W T.the-row (LL.makes T.the-type T′.the-plain 𝓤 H A) 32) xs (mach ∷ []) p $ move ! (5 ∷ 0 ∷ []) $
+          owned ! Row (Is Row) (array-makes 𝓤 H A W T.the-row (LL.makes T.the-type T′.the-plain 𝓤 H A) 4) xs (mach ∷ []) p $ move ! (5 ∷ 0 ∷ []) $
           use2 W (‵ (partAt Row fullShare xs l₃ 0)) (part-in-at 𝓤 H A W Row refl fullShare xs l₃ 0 rowTy refl mach) $
-          use1 W (‵ (arr-parts (shares T.the-row) 32 .part fullShare xs l₃ 0)) (array-apart 𝓤 H A W T.the-row fullShare tt 32 xs l₃ 0) $
+          use1 W (‵ (arr-parts (shares T.the-row) 4 .part fullShare xs l₃ 0)) (array-apart 𝓤 H A W T.the-row fullShare tt 4 xs l₃ 0) $
           rewrite ! 0 (λ (m : ℕ). ‵ (arr-parts (shares T.the-row) m .part fullShare xs l₃ 0)) (sym len) refl $
           lft-new ! tt (λ α. move ! (1 ∷ []) $
           use1 W (later (some (λ (γ : GName). ‵ (Own (α ∷ []) l₃ γ) ⊛ ‵ (flent (α ∷ []) (arr-parts (shares T.the-row) (length xs) .part fullShare xs l₃ 0)))))
@@ -148,7 +148,7 @@ module _ {M : Type 1} (𝓤 : URA M) (H : Heap 𝓤) (A : Atoms 𝓤) (W : Given
           land ! (from ! (stop !)) (init ! 12 refl (EL.lawful G.the-type G′.the-laws 𝓤 H A W tt .typed r _ is .0)) $
           move ! (1 ∷ []) $ split ! $ lft-end ! tt $ move ! (0 ∷ 3 ∷ []) $ lent-back ! tt $
           rewrite ! 0 (λ (m : ℕ). ‵ (arr-parts (shares T.the-row) m .part fullShare xs l₃ 0)) len refl $
-          use1 W (‵ (partAt Row fullShare xs l₃ 0)) (array-whole 𝓤 H A W T.the-row fullShare 32 xs l₃ 0) $
+          use1 W (‵ (partAt Row fullShare xs l₃ 0)) (array-whole 𝓤 H A W T.the-row fullShare 4 xs l₃ 0) $
           use1 W (some (λ (v : Val). ‵ (fat fullShare rowTy l₃ 0 v) ⊛ ‵ (Row .own xs (v ∷ [])))) (part-out-at 𝓤 H A W Row refl fullShare xs l₃ 0 rowTy refl) $ pick ! (λ v. split ! $
           -- [_3; what it owns; true; the result; _5; …; _4; …; that _3 dies; _2; …; _1; …; _0; …]
           returns ! (look ! 13 refl) $ forget ! 0 refl $ forget ! 4 refl $ forget ! 6 refl $ forget ! 9 refl $ forget ! 11 refl $ forget ! 13 refl $
@@ -158,7 +158,7 @@ module _ {M : Type 1} (𝓤 : URA M) (H : Heap 𝓤) (A : Atoms 𝓤) (W : Given
 module _ {M : Type 1} (𝓤 : URA M) (H : Heap 𝓤) (A : Atoms 𝓤) (W : Given 𝓤 H A) (mem : Memory → SProp 𝓤) (run : Routine → Fun 𝓤) where
   f-walks : (C : Calls 𝓤 H) (Λ : Loops 𝓤 H) → FmC 𝓤 H (W .laws) C → Triple 𝓤 (C #rows·find-in) (FindIn 𝓤 H A mem run) → Walks 𝓤 H A f.ended stayed (WpFn 𝓤 H C Λ code.function) (f.clauses 𝓤 H A mem run)
   f-walks C Λ fm known = walked 𝓤 H A f.ended stayed (f.clauses 𝓤 H A mem run) (WpFn 𝓤 H C Λ code.function) (λ κs. (array-vals (LL.vals T.the-type T′.the-laws), (uint-vals w64, tt)))
-      (λ κs. (array-tells T.the-row (LL.vals T.the-type T′.the-laws) (LL.tells T.the-type T′.the-laws) 32, (uint-tells w64, tt)))
+      (λ κs. (array-tells T.the-row (LL.vals T.the-type T′.the-laws) (LL.tells T.the-type T′.the-laws) 4, (uint-tells w64, tt)))
       (λ κs qs bounds a g are. via 𝓤 _ (fst∗ 𝓤 _ (emp 𝓤)) (walk 𝓤 H A W mem run (a .0) (a .1 .0) (are .1 .0 .1) (are .0) C Λ fm known))
 
 f-meets : {M : Type 1} (𝓤 : URA M) (H : Heap 𝓤) (A : Atoms 𝓤) (W : Given 𝓤 H A) (mem : Memory → SProp 𝓤) (run : Routine → Fun 𝓤) (𝓣 : Tables 𝓤 H) → Triple 𝓤 (𝓣 .C #rows·find-in) (FindIn 𝓤 H A mem run)

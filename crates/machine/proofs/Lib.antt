@@ -1,4 +1,0 @@
-pub mod Said
-pub mod Picks
-pub mod Entries
-pub mod Runs
