@@ -7,7 +7,7 @@ use lib.Dec.{ltb}
 use lib.ListN.{length}
 use Rattle.laws.specs.Lists.{all}
 use Rattle.rules.specs.declared.Report.{Report}
-use Rattle.rules.specs.Calls.{Event, loads, asks, clears, message, hear, absent, tell, blank, load}
+use Rattle.rules.specs.Calls.{Event, loads, asks, clears, message, hear, absent, tell, blank, load, numberIn}
 use Rattle.soundness.specs.Events.{ByteEvent}
 use Rattle.laying.specs.Laid.{Parts, laidClaim}
 use Rattle.lodging.specs.Lodged as Lodged
@@ -19,7 +19,7 @@ use Rattle.state.specs.State.{State, machineOf, Stands}
 use Rattle.state.specs.Seats.{cut, partsAt, putParts}
 use Rattle.state.proofs.Pieces.{claimOf, SeatAt, seat-at}
 use Rattle.state.proofs.Regions.{RegionAt}
-use Rattle.calls.specs.Calls.{numberIn, placeIn, reportIn, Moved, moved, saidTo, Loaded, loaded, loadedIn, shown, shownIn}
+use Rattle.calls.specs.Calls.{placeIn, reportIn, Moved, moved, saidTo, Loaded, loaded, loadedIn, shown, shownIn}
 use Rattle.calls.proofs.Said.{said-nowhere, said-here, reply-nowhere, reply-here}
 
 -- what a call leaves in the parts of seat k, its cells from a to e, put back; with its answer

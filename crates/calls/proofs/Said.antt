@@ -5,7 +5,7 @@ use lib.ListN.{length}
 use borrow.Author.Tests.{lt-ltb, le-ltb}
 use Rattle.laws.proofs.Choice.{parted}
 use Rattle.laws.proofs.Every.{all-get}
-use Rattle.rules.specs.Calls.{Event, message, hear, absent, tell, mayOpen}
+use Rattle.rules.specs.Calls.{Event, message, hear, absent, tell, mayOpen, numberIn}
 use Rattle.rules.specs.Sound.{regions, sharesOf, sound}
 use Rattle.soundness.specs.Events.{ByteEvent}
 use Rattle.soundness.proofs.Claims.{Roomy}
@@ -16,7 +16,7 @@ use Rattle.laying.proofs.Fits.{fits}
 use Rattle.state.specs.State.{State, machineOf, Stands}
 use Rattle.state.specs.Seats.{putParts}
 use Rattle.state.proofs.Pieces.{claimOf, from, to, seat-at}
-use Rattle.calls.specs.Calls.{numberIn, moved, saidTo}
+use Rattle.calls.specs.Calls.{moved, saidTo}
 
 module _ {s : State} (t : Stands s) (k : ℕ) where
   pub said-nowhere : (e : Event) → length (machineOf s) ≤ k → saidTo (machineOf s) s k e ≡ moved (numberIn (absent e)) s

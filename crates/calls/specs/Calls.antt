@@ -8,15 +8,10 @@ use lib.ListN.{length, drop}
 use lib.Dec.{leb, eqb}
 use Rattle.laws.specs.Choice.{if_then_else_}
 use Rattle.rules.specs.declared.Report.{Report}
-use Rattle.rules.specs.Calls.{Machine, Event, loads, asks, clears, Reply, number, placed, told, blank, message, tell, after, replies, entries, Share, mayOpen, opened}
+use Rattle.rules.specs.Calls.{Machine, Event, loads, asks, clears, Reply, number, placed, told, blank, message, tell, after, replies, entries, Share, mayOpen, opened, numberIn}
 use Rattle.state.specs.State.{State, long, laid, claimsOf}
 
 -- ---- what a reply says in numbers
-
-unfoldable pub numberIn : Reply → ℕ
-numberIn (number n) = n
-numberIn (placed n p) = n
-numberIn (told n r) = n
 
 -- "the place is 0 except with 23"
 unfoldable pub placeIn : Reply → ℕ

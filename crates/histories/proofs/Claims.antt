@@ -8,13 +8,13 @@ use Rattle.laws.specs.Choice.{if_then_else_}
 use Rattle.laws.specs.Lists.{all}
 use Rattle.laws.proofs.Absurd.{clash}
 use Rattle.laws.proofs.Every.{All, all-nil, all-cons}
-use Rattle.rules.specs.Calls.{Machine, loads, clears, Message, message, tell, after, entries, opened}
+use Rattle.rules.specs.Calls.{Machine, loads, clears, Message, message, tell, after, entries, opened, numberIn}
 use Rattle.rules.specs.Sound.{sound}
 use Rattle.soundness.specs.Events.{ByteEvent}
 use Rattle.soundness.proofs.Machines.{sound-opened, sound-kept, sound-run}
 use Rattle.state.specs.State.{State, long, laid, machineOf, stateSound}
 use Rattle.state.proofs.Stands.{machine-laid, stands-laid, sound-stands, stands-sound}
-use Rattle.calls.specs.Calls.{numberIn, sharesIn, Moved, Ran, ranOn, saidTo, clearCall, loadedIn, loadCall}
+use Rattle.calls.specs.Calls.{sharesIn, Moved, Ran, ranOn, saidTo, clearCall, loadedIn, loadCall}
 use Rattle.histories.proofs.Ends.{Opens, Runs, load-ends, clear-ends}
 
 -- s is sound, and these are the claims in it

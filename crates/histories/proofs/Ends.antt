@@ -16,10 +16,10 @@ use Rattle.rules.specs.declared.Effect.{Effect}
 use Rattle.rules.specs.declared.Effect.the-variants.{Goes, Ends, Waits, Fills, Empties, Makes, Spawns, Refuses}
 use Rattle.rules.specs.Claim.{Claim, statusOf, readyCount, seek}
 use Rattle.rules.specs.Turn.{answerOf, effectAt, isRunning, Turned, ran, turn}
-use Rattle.rules.specs.Calls.{Machine, claimAt, Event, picks, loads, asks, clears, Loading, loadBy, load, clear, hear, Message, message, Told, tell, absent, opened, mayOpen}
+use Rattle.rules.specs.Calls.{Machine, claimAt, Event, picks, loads, asks, clears, Loading, loadBy, load, clear, hear, Message, message, Told, tell, absent, opened, mayOpen, numberIn}
 use Rattle.state.specs.State.{State, long, laid, machineOf, stateSound, claimsOf}
 use Rattle.calls.specs.Calls as Calls
-use Rattle.calls.specs.Calls.{numberIn, sharesIn, Moved, moved, Ran, openCall, ranOn, runWith, runCall, saidTo, clearWith, clearCall, loadedIn, loadWith, loadCall, shownIn, reportWith, reportCall}
+use Rattle.calls.specs.Calls.{sharesIn, Moved, moved, Ran, openCall, ranOn, runWith, runCall, saidTo, clearWith, clearCall, loadedIn, loadWith, loadCall, shownIn, reportWith, reportCall}
 
 -- ---- an opening
 

@@ -8,7 +8,7 @@ use borrow.Author.Tests.{le-leb}
 use Rattle.laws.proofs.Every.{All}
 use Rattle.rules.specs.Claim.{Claim}
 use Rattle.rules.specs.Turn.{turn}
-use Rattle.rules.specs.Calls.{Machine, claimAt, Event, picks, loads, asks, clears, load, clear, report, hear, message, tell, replies, entries}
+use Rattle.rules.specs.Calls.{Machine, claimAt, Event, picks, loads, asks, clears, load, clear, report, hear, message, tell, replies, entries, numberIn}
 use Rattle.rules.specs.History.{machineAfter, trace, fresh, replay}
 use Rattle.rules.proofs.Telling.{tell-reply}
 use Rattle.rules.proofs.Isolation as Rules
@@ -17,7 +17,7 @@ use Rattle.state.specs.State.{State, machineOf, claimsOf}
 use Rattle.state.specs.Seats.{baseOf}
 use Rattle.state.proofs.Stands.{sound-stands}
 use Rattle.state.proofs.Pieces.{seat-at}
-use Rattle.calls.specs.Calls.{numberIn, placeIn, reportIn, over, shown, ranOn, runWith, runCall, loadedIn, loadCall, clearCall, saidTo, shownIn, reportCall}
+use Rattle.calls.specs.Calls.{placeIn, reportIn, over, shown, ranOn, runWith, runCall, loadedIn, loadCall, clearCall, saidTo, shownIn, reportCall}
 use Rattle.histories.specs.History.{Call, after, sharesOf, logOf, traceOf, spoken, Bytes}
 use Rattle.histories.specs.Agree.{bytesOf, Agree}
 use Rattle.histories.proofs.Ends.{runNumber, run-number, load-ends, clear-ends, report-ends}

@@ -11,11 +11,11 @@ use Rattle.laws.specs.Lists.{isNone}
 use Rattle.laws.proofs.Choice.{only-first, either-way}
 use Rattle.laws.proofs.Absurd.{below-zero}
 use Rattle.laws.proofs.Every.{All, all-nil, all-cons}
-use Rattle.rules.specs.Calls.{Event, picks, loads, clears, hear, absent, Reply, message, Told, tell, replies, entries, Share}
+use Rattle.rules.specs.Calls.{Event, picks, loads, clears, hear, absent, Reply, message, Told, tell, replies, entries, Share, numberIn}
 use Rattle.rules.specs.History.{Happening, opens, says, machineAfter, sharesAfter, counted, trace, fresh}
 use Rattle.rules.proofs.Isolation.{isolated-reply}
 use Rattle.state.specs.State.{State, machineOf}
-use Rattle.calls.specs.Calls.{numberIn, sharesIn, Moved, Ran, over, ranOn, clearCall, loadCall}
+use Rattle.calls.specs.Calls.{sharesIn, Moved, Ran, over, ranOn, clearCall, loadCall}
 use Rattle.histories.specs.History.{Call, opening, running, loading, reporting, clearing, after, sharesOf, Word, word, entriesOf, logOf, spoken, Bytes}
 use Rattle.histories.proofs.Ends.{Opens, open-ends, Runs, run-ends, tell-not-32}
 use Rattle.histories.proofs.Claims.{load-said, clear-said}

@@ -1,6 +1,6 @@
 -- "Refused calls leave every lent byte": from any bytes, a call that does not answer 0 leaves each buffer as it was. Assumes nothing.
 use Prim.Native.Nat.{ℕ}
-use mathlib.Core.Path.{_≡_, refl, sym, ap, _∙_}
+use mathlib.Core.Path.{_≡_, refl, ap, _∙_}
 use mathlib.Core.Bool.{true, false}
 use mathlib.Core.List.{List}
 use lib.Dec.{ltb, eqb}
@@ -8,22 +8,16 @@ use lib.ListN.{length}
 use Rattle.laws.proofs.Absurd.{clash}
 use Rattle.laws.proofs.Choice.{tested}
 use Rattle.lent.proofs.Kept.{set-same}
-use Rattle.rules.specs.Calls.{Machine, claimAt, Event, loads, clears, Reply, number, placed, told, message, tell}
-use Rattle.rules.specs.Events.{replied, changes}
+use Rattle.rules.specs.Calls.{Machine, claimAt, Event, loads, clears, message, tell, numberIn}
+use Rattle.rules.specs.Events.{changes}
 use Rattle.rules.proofs.Steps.{hear-still}
 use Rattle.state.specs.State.{State, laid, machineOf, stateSound, claimsOf}
 use Rattle.state.proofs.Stands.{sound-stands}
-use Rattle.calls.specs.Calls.{numberIn, Moved, Ran, openCall, ranOn, runWith, runCall, saidTo, clearWith, clearCall, loadedIn, loadWith, loadCall}
+use Rattle.calls.specs.Calls.{Moved, Ran, openCall, ranOn, runWith, runCall, saidTo, clearWith, clearCall, loadedIn, loadWith, loadCall}
 use Rattle.histories.proofs.Ends.{Opens, open-ends, Runs, run-ends, load-ends, clear-ends}
 
-same-number : (r : Reply) → numberIn r ≡ replied r
-unfolding numberIn replied
-same-number (number n) = refl
-same-number (placed n p) = refl
-same-number (told n r) = refl
-
 -- a message that changes nothing leaves the machine
-tell-still : (m : Machine) (k : ℕ) (e : Event) → changes e (replied (tell m (message k e) .reply)) ≡ false → tell m (message k e) .machine ≡ m
+tell-still : (m : Machine) (k : ℕ) (e : Event) → changes e (numberIn (tell m (message k e) .reply)) ≡ false → tell m (message k e) .machine ≡ m
 unfolding tell
 tell-still m k e f =
     tested (ltb k (length m))
@@ -34,7 +28,7 @@ tell-still m k e f =
 still : (s : State) → stateSound s ≡ true → (k : ℕ) (e : Event) → changes e (numberIn (tell (machineOf s) (message k e) .reply)) ≡ false
     → laid (tell (machineOf s) (message k e) .machine) s ≡ s
 still s o k e f =
-    ap (λ (m : Machine). laid m s) (tell-still (machineOf s) k e (ap (changes e) (sym (same-number _)) ∙ f)) ∙ sound-stands s o .same
+    ap (λ (m : Machine). laid m s) (tell-still (machineOf s) k e f) ∙ sound-stands s o .same
 
 module _ (s : State) where
   pub load-refused : (k : ℕ) (image : List ℕ) → eqb (loadCall s k image .answer) 0 ≡ false → loadCall s k image .state ≡ s

@@ -7,10 +7,10 @@ use lib.Dec.{ltb, eqb}
 use Rattle.laws.specs.Choice.{if_then_else_}
 use Rattle.laws.specs.Lists.{all}
 use Rattle.rules.specs.Claim.{Claim}
-use Rattle.rules.specs.Calls.{Event, picks, loads, Share, hear}
+use Rattle.rules.specs.Calls.{Event, picks, loads, Share, hear, numberIn}
 use Rattle.rules.specs.History.{replay}
 use Rattle.state.specs.State.{State}
-use Rattle.calls.specs.Calls.{numberIn, sharesIn, openCall, runCall, loadCall, clearCall}
+use Rattle.calls.specs.Calls.{sharesIn, openCall, runCall, loadCall, clearCall}
 
 -- a call, with what it is lent beside the state
 pub data Call : Type 0 where

@@ -92,14 +92,9 @@ module _ (start : ℕ) (p : Parts) where
     accs : length (p .accs) ≡ 32
     image : length (p .image) ≡ 4096
 
-  lengths : lengthsStand p ≡ true → Lengths
-  unfolding lengthsStand
-  lengths e =
-      parted (eqb (length (p .book)) 9) _ e λ book e.
-      parted (eqb (length (p .tags)) share) _ e λ tags e.
-      parted (eqb (length (p .words)) share) _ e λ words e.
-      parted (eqb (length (p .heads)) 32) _ e λ heads e.
-      parted (eqb (length (p .accs)) 32) _ e λ accs image.
+  measured : eqb (length (p .book)) 9 ≡ true → eqb (length (p .tags)) share ≡ true → eqb (length (p .words)) share ≡ true
+      → eqb (length (p .heads)) 32 ≡ true → eqb (length (p .accs)) 32 ≡ true → eqb (length (p .image)) 4096 ≡ true → Lengths
+  measured book tags words heads accs image =
       record {
         book = eqb-true _ _ book;
         tags = eqb-true _ _ tags;
@@ -108,6 +103,16 @@ module _ (start : ℕ) (p : Parts) where
         accs = eqb-true _ _ accs;
         image = eqb-true _ _ image;
       }
+
+  lengths : lengthsStand p ≡ true → Lengths
+  unfolding lengthsStand
+  lengths e =
+      parted (eqb (length (p .book)) 9) _ e λ book e.
+      parted (eqb (length (p .tags)) share) _ e λ tags e.
+      parted (eqb (length (p .words)) share) _ e λ words e.
+      parted (eqb (length (p .heads)) 32) _ e λ heads e.
+      parted (eqb (length (p .accs)) 32) _ e λ accs image.
+      measured book tags words heads accs image
 
   lengths-stand : Lengths → lengthsStand p ≡ true
   unfolding lengthsStand
@@ -142,14 +147,7 @@ module _ (start : ℕ) (p : Parts) where
       parted (leb live 32) _ e λ few e.
       parted (canonical cellTag cellWord cellRead used (p .tags) (p .words)) _ e λ cells row.
       record {
-        lens = record {
-          book = eqb-true _ _ book;
-          tags = eqb-true _ _ tags;
-          words = eqb-true _ _ words;
-          heads = eqb-true _ _ heads;
-          accs = eqb-true _ _ accs;
-          image = eqb-true _ _ image;
-        };
+        lens = measured book tags words heads accs image;
         short = leb-true _ _ short;
         bare = bare;
         entry = eqb-true _ _ entry;

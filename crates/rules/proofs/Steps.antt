@@ -10,8 +10,8 @@ use Rattle.rules.specs.declared.Effect.{Effect}
 use Rattle.rules.specs.declared.Effect.the-variants.{Goes, Ends, Waits, Fills, Empties, Makes, Spawns, Refuses}
 use Rattle.rules.specs.Claim.{Claim}
 use Rattle.rules.specs.Turn.{Turned, turn, ran, answerOf}
-use Rattle.rules.specs.Calls.{Loading, load, loaded, clear, bare, Event, picks, loads, asks, clears, hear}
-use Rattle.rules.specs.Events.{replied, changes, counts}
+use Rattle.rules.specs.Calls.{Loading, load, loaded, clear, bare, Event, picks, loads, asks, clears, hear, numberIn}
+use Rattle.rules.specs.Events.{changes, counts}
 use Rattle.rules.proofs.Outcomes as Outcomes
 use Rattle.rules.proofs.Outcomes.{Turns, idles, runs, Loads, rejects, accepts, Clears, leaves, empties}
 
@@ -78,15 +78,15 @@ module _ (c : Claim) where
 
   -- ---- any event: its answer says whether anything changed, and then what became of the steps
 
-  pub hear-still : (e : Event) → changes e (replied (hear c e .reply)) ≡ false → hear c e .claim ≡ c
-  unfolding changes replied hear
+  pub hear-still : (e : Event) → changes e (numberIn (hear c e .reply)) ≡ false → hear c e .claim ≡ c
+  unfolding changes numberIn hear
   hear-still (picks p) f = turn-still p f
   hear-still (loads image) f = load-still image f
   hear-still asks f = refl
   hear-still clears f = clear-claim ∙ rw f
 
-  pub hear-steps : (e : Event) → hear c e .claim .steps ≡ (if changes e (replied (hear c e .reply)) then counts e (c .steps) else c .steps)
-  unfolding changes counts replied hear
+  pub hear-steps : (e : Event) → hear c e .claim .steps ≡ (if changes e (numberIn (hear c e .reply)) then counts e (c .steps) else c .steps)
+  unfolding changes counts numberIn hear
   hear-steps (picks p) = turn-steps p
   hear-steps (loads image) = load-steps image
   hear-steps asks = refl

@@ -101,6 +101,12 @@ pub data Reply : Type 0 where
   placed : ℕ → ℕ → Reply
   told : ℕ → Report → Reply
 
+-- the number in a reply
+unfoldable pub numberIn : Reply → ℕ
+numberIn (number n) = n
+numberIn (placed n p) = n
+numberIn (told n r) = n
+
 pub record Heard : Type 0 where
   pub claim : Claim
   pub reply : Reply

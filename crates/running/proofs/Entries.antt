@@ -7,12 +7,12 @@ use mathlib.Core.Bool.{true}
 use mathlib.Core.List.{List, [], _∷_, _++_, map, append-assoc}
 use lib.ListN.{length, getD, set, take, drop, length-set, drop-of-length-le, take-append-drop}
 use lib.Seq.{drop-cons, take-suc-set, drop-set-lt, drop-drop}
-use Rattle.rules.specs.Calls.{Machine, picks, Message, message, tell, after, replies, entries}
+use Rattle.rules.specs.Calls.{Machine, picks, Message, message, tell, after, replies, entries, numberIn}
 use Rattle.rules.specs.Sound.{sound}
 use Rattle.soundness.proofs.Machines.{sound-kept}
 use Rattle.state.specs.State.{State, laid, machineOf, Stands}
 use Rattle.state.proofs.Stands.{machine-laid, laid-laid, stands-laid}
-use Rattle.calls.specs.Calls.{numberIn, Moved, moved, saidTo, Ran, ran, over, ranOn}
+use Rattle.calls.specs.Calls.{Moved, moved, saidTo, Ran, ran, over, ranOn}
 
 -- one more answer
 answers-on : (l a : List ℕ) (i r : ℕ) → i < length l → take i l ++ over (r ∷ a) (drop i l) ≡ take (i + 1) (set l i r) ++ over a (drop (i + 1) (set l i r))

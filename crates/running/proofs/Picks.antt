@@ -6,7 +6,7 @@ use mathlib.Core.List.{List}
 use lib.ListN.{length, getD, drop, take-append-drop}
 use Rattle.rules.specs.Claim.{Claim}
 use Rattle.rules.specs.Turn as Rules
-use Rattle.rules.specs.Calls.{picks, hear, absent}
+use Rattle.rules.specs.Calls.{picks, hear, absent, numberIn}
 use Rattle.rules.proofs.Outcomes.{Turns, idles, runs, turns, performed}
 use Rattle.laying.specs.Laid as Laid
 use Rattle.laying.specs.Laid.{laidClaim, spread}
@@ -18,7 +18,7 @@ use Rattle.state.specs.State.{State, state, machineOf, Stands}
 use Rattle.state.specs.Seats.{cut, splice}
 use Rattle.state.proofs.Pieces.{claimOf, from, to, SeatAt, seat-at}
 use Rattle.state.proofs.Regions.{RegionAt}
-use Rattle.calls.specs.Calls.{numberIn, Moved, moved, saidTo}
+use Rattle.calls.specs.Calls.{Moved, moved, saidTo}
 use Rattle.calls.proofs.Said.{said-nowhere, said-here}
 
 -- a turn of seat k's code on its parts, the cells from a to e and the image up to j; and what it writes put back, with its answer
