@@ -6,6 +6,11 @@ ghost use Prim.Native.Nat.{_-_};
 ghost use lib.ListN.{getD, set};
 ghost use Rattle.book.specs.Book.{tallyIn, sumOr, narrow};
 
+// Where an effect changes a number.
+pub const USED: usize = 4;
+
+pub const LIVE: usize = 5;
+
 pub struct Tally {
     pub cells: u32,
     pub threads: u32,
@@ -66,21 +71,12 @@ pub fn count(book: &mut [u32])
     put32(book, 8, one_more(steps));
 }
 
-// One step more, and so many live threads.
-pub fn count_live(book: &mut [u32], live: u32)
-    ensures { λ _. ⌜ now (book .exit) ≡ set (set (now (book .entry)) 5 live) 8 (sumOr (getD (now (book .entry)) 8 0) 1) ⌝ }
+// One step more, and one other number of the book changed.
+pub fn count_with(book: &mut [u32], at: usize, n: u32)
+    ensures { λ _. ⌜ now (book .exit) ≡ set (set (now (book .entry)) at n) 8 (sumOr (getD (now (book .entry)) 8 0) 1) ⌝ }
 {
     let steps = get32(&book[..], 8);
-    put32(book, 5, live);
-    put32(book, 8, one_more(steps));
-}
-
-// One step more, and so many used cells.
-pub fn count_used(book: &mut [u32], used: u32)
-    ensures { λ _. ⌜ now (book .exit) ≡ set (set (now (book .entry)) 4 used) 8 (sumOr (getD (now (book .entry)) 8 0) 1) ⌝ }
-{
-    let steps = get32(&book[..], 8);
-    put32(book, 4, used);
+    put32(book, at, n);
     put32(book, 8, one_more(steps));
 }
 

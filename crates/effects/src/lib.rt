@@ -1,4 +1,6 @@
 // What an instruction asks for, written to the parts that it changes: one arm an effect, room tested first.
+use book::LIVE;
+use book::USED;
 use lent::get32;
 use rules::Effect;
 use rules::Kind;
@@ -32,13 +34,13 @@ fn make(
     ensures { λ r. ⌜ ((words : List ℕ) (start : ℕ) → Enacted.enacted (Makes t k m) start i (Enacted.parts (now (book .entry)) (now (tags .entry)) words (now (heads .entry)) (now (accs .entry))) ≡ Enacted.turned r (Enacted.parts (now (book .exit)) (now (tags .exit)) words (now (heads .exit)) (now (accs .exit)))) ⌝ }
 {
     let cells = get32(&book[..], 0);
-    let used = get32(&book[..], 4);
+    let used = get32(&book[..], USED);
     if (cells as u64) < used as u64 + m as u64 {
         return refuse(book, NO_CELLS_LEFT, i);
     }
     cells::make(tags, used, k, m);
     threads::put_record(heads, accs, i, 1, t);
-    book::count_used(book, book::sum_or(used, m as u32));
+    book::count_with(book, USED, book::sum_or(used, m as u32));
     0
 }
 
@@ -54,12 +56,12 @@ fn spawn(
     ensures { λ r. ⌜ ((tags words : List ℕ) (start : ℕ) → Enacted.enacted (Spawns t new) start i (Enacted.parts (now (book .entry)) tags words (now (heads .entry)) (now (accs .entry))) ≡ Enacted.turned r (Enacted.parts (now (book .exit)) tags words (now (heads .exit)) (now (accs .exit)))) ⌝ }
 {
     let share = get32(&book[..], 1);
-    let live = get32(&book[..], 5);
+    let live = get32(&book[..], LIVE);
     if share <= live {
         return refuse(book, NO_THREADS_LEFT, i);
     }
     threads::spawn_record(heads, accs, i, live, new, t);
-    book::count_live(book, book::one_more(live));
+    book::count_with(book, LIVE, book::one_more(live));
     0
 }
 
@@ -76,8 +78,8 @@ pub fn perform(
 ) -> u8
     ensures { λ r. ⌜ Enacted.enacted e start i (Enacted.parts (now (book .entry)) (now (tags .entry)) (now (words .entry)) (now (heads .entry)) (now (accs .entry))) ≡ Enacted.turned r (Enacted.parts (now (book .exit)) (now (tags .exit)) (now (words .exit)) (now (heads .exit)) (now (accs .exit))) ⌝ }
 {
-    let used = get32(&book[..], 4);
-    let live = get32(&book[..], 5);
+    let used = get32(&book[..], USED);
+    let live = get32(&book[..], LIVE);
     match e {
         Effect::Goes(t) => {
             threads::put_record(heads, accs, i, 1, t);
@@ -86,7 +88,7 @@ pub fn perform(
         }
         Effect::Ends => {
             threads::take_record(heads, accs, i);
-            book::count_live(book, book::one_less(live));
+            book::count_with(book, LIVE, book::one_less(live));
             1
         }
         Effect::Waits(t, l) => {

@@ -3,13 +3,13 @@ use Prim.Native.Nat.{ℕ, _+_, _-_, _<_, _≤_}
 use native.Mathlib.Omega.{arith}
 use mathlib.Core.Path.{_≡_, sym, ap, _∙_}
 use mathlib.Core.List.{List}
-use lib.ListN.{length, getD, take, drop, length-drop}
-use lib.Seq.{take-length}
+use lib.ListN.{length, getD, take, drop}
 use lib.Dec.{leb, ltb}
 use borrow.Author.Tests.{leb-true, lt-ltb, le-ltb, le-leb, lt-leb}
 use Rattle.laws.specs.Choice.{if_then_else_}
 use Rattle.laws.proofs.Choice.{chosen}
 use Rattle.laws.proofs.Absurd.{clash}
+use Rattle.laws.proofs.Lists.{rest-is}
 use Rattle.value.specs.declared.Value.{Value}
 use Rattle.kinds.specs.declared.Instruction.{Instruction}
 use Rattle.kinds.specs.declared.Meaning.{Meaning}
@@ -123,9 +123,8 @@ module _ (l : List ℕ) (at : ℕ) where
       step-from a g e =
           let k = getD l at 0 in
           let rest = drop (at + 1) l in
-          let all : take (length l - (at + 1)) rest ≡ rest = rw (← length-drop (at + 1) l) (take-length rest) in
           let n : instructionKind k .size ≡ at + 1 + size - (at + 1) = omega arith in
-          step-there a g (e ∙ ap (instructionKind k .means) all ∙ sym (means-front k rest) ∙ ap (λ (m : ℕ). instructionKind k .means (take m rest)) n)
+          step-there a g (e ∙ ap (instructionKind k .means) (rest-is (at + 1) l) ∙ sym (means-front k rest) ∙ ap (λ (m : ℕ). instructionKind k .means (take m rest)) n)
 
     module _ (z : size ≡ recordKind (getD l at 0) .size) where
       pub head-cut : length l - at ≤ size → Head.Bad ≡ headAt l at

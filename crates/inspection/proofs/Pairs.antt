@@ -6,10 +6,11 @@ use mathlib.Core.Path.{_≡_, refl, sym, ap, _∙_}
 use mathlib.Core.Bool.{Bool, true, false, _&&_}
 use mathlib.Core.List.{List, [], _∷_}
 use lib.Dec.{eqb}
-use lib.ListN.{length, getD, take, drop, length-drop, drop-of-length-le}
-use lib.Seq.{take-all, drop-cons}
+use lib.ListN.{length, getD, take, drop, drop-of-length-le}
+use lib.Seq.{drop-cons}
 use Rattle.laws.specs.Lists.{all}
 use Rattle.laws.proofs.Absurd.{below-zero}
+use Rattle.laws.proofs.Lists.{rest-is}
 use Rattle.lent.specs.Runs.{isZero}
 use Rattle.laying.specs.Back.{unspread, canonical}
 use Rattle.inspection.specs.Tests.{eachPair, stands, held}
@@ -52,7 +53,7 @@ module _ {p : ℕ → ℕ → Bool} {ts ws : List ℕ} {i : ℕ} (b : Paired p t
 
 -- what a slice's rest holds is the list's rest
 pub bare-rest : {r : Bool} (k : ℕ) (s : List ℕ) → r ≡ all isZero (take (length s - k) (drop k s)) → r ≡ all isZero (drop k s)
-bare-rest k s e = e ∙ rw (take-all (length s - k) (drop k s) (omega (arith, length-drop k s)))
+bare-rest k s e = e ∙ ap (all isZero) (rest-is k s)
 
 -- ---- the elements
 

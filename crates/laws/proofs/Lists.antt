@@ -1,10 +1,11 @@
--- Lists mapped, filled with one element, and read at a place. Assumes nothing.
-use Prim.Native.Nat.{ℕ, zero, suc, _<_, _≤_}
+-- Lists mapped, filled with one element, read at a place, and from a place to the end. Assumes nothing.
+use Prim.Native.Nat.{ℕ, zero, suc, _-_, _<_, _≤_}
 use native.Mathlib.Omega.{arith}
 use mathlib.Core.Path.{_≡_, refl, ap}
 use mathlib.Core.Option.{none, some}
 use mathlib.Core.List.{List, [], _∷_, _++_, map}
-use lib.ListN.{length, getD, getElem?, set, replicate}
+use lib.ListN.{length, getD, getElem?, set, take, drop, replicate, length-drop}
+use lib.Seq.{take-length}
 use Rattle.laws.proofs.Absurd.{below-zero}
 
 -- one more of the same
@@ -41,3 +42,7 @@ module _ {A : Type 0} where
   get-none [] i l = refl
   get-none (x ∷ xs) zero l = below-zero (length xs) (omega arith)
   get-none (x ∷ xs) (suc i) l = get-none xs i (omega arith)
+
+  -- a part of a slice up to its end
+  pub rest-is : (i : ℕ) (xs : List A) → take (length xs - i) (drop i xs) ≡ drop i xs
+  rest-is i xs = rw (← length-drop i xs) (take-length (drop i xs))

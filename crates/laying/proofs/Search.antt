@@ -4,7 +4,7 @@ use native.Mathlib.Nat.{zero-add}
 use native.Mathlib.Omega.{arith}
 use mathlib.Core.Path.{_≡_, refl, ap}
 use mathlib.Core.Bool.{Bool, true, false}
-use mathlib.Core.List.{List, [], _∷_, _++_, map}
+use mathlib.Core.List.{List, [], _∷_, _++_, map, append-nil}
 use lib.Dec.{ltb, eqb}
 use lib.ListN.{length, take, replicate}
 use borrow.Author.Tests.{eq-eqb, ne-eqb, lt-ltb, le-ltb, ltb-true, ltb-false}
@@ -15,6 +15,7 @@ use Rattle.threads.specs.declared.Found.the-variants.{At, Ready}
 use Rattle.threads.specs.Row.{foundFrom}
 use Rattle.laying.specs.Laid.{spread, headNumber}
 use Rattle.laying.proofs.Fitting.{Placed, Fit, all-placed}
+use Rattle.laying.proofs.Spread.{spread-take}
 use Rattle.laying.proofs.Heads.{is-ready}
 
 none-there : (pick i n z : ℕ) → foundFrom pick i n (replicate z 0) ≡ Ready n
@@ -69,11 +70,6 @@ found-row (t ∷ ts) z i n (suc j) (all-cons p h) = rw (is-ready t p) (by (isRea
         rw (ne-eqb n (n + suc j) (λ w. omega arith), q) (rw (ltb-suc j (count ts), u, v) e)
     by false e f = let q : i + 1 + seek ts (suc j) ≡ i + suc (seek ts (suc j)) = omega arith in rw q at f
 
--- as many heads as there are records are the records' own
-taken : (row : List Live) (zs : List ℕ) → take (length row) (map headNumber row ++ zs) ≡ map headNumber row ++ []
-taken [] zs = refl
-taken (t ∷ ts) zs = ap (λ (hs : List ℕ). headNumber t ∷ hs) (taken ts zs)
-
 module _ (c : Claim) (f : Fit c) (pick : ℕ) where
   pub found-same : foundFrom pick 0 0 (spread headNumber 32 (c .row)) ≡ (if ltb pick (readyCount c) then At (seek (c .row) pick) else Ready (readyCount c))
   unfolding spread readyCount
@@ -81,5 +77,5 @@ module _ (c : Claim) (f : Fit c) (pick : ℕ) where
 
   -- so does the search of the live records alone
   pub live-found : foundFrom pick 0 0 (take (length (c .row)) (spread headNumber 32 (c .row))) ≡ (if ltb pick (readyCount c) then At (seek (c .row) pick) else Ready (readyCount c))
-  unfolding spread readyCount
-  live-found = rw (taken (c .row) (replicate (32 - length (c .row)) 0)) (simp zero-add at (found-row (c .row) 0 0 0 pick (all-placed c f)))
+  unfolding readyCount
+  live-found = rw (spread-take headNumber 32 (c .row), ← append-nil (map headNumber (c .row))) (simp zero-add at (found-row (c .row) 0 0 0 pick (all-placed c f)))

@@ -5,10 +5,11 @@ use mathlib.Core.Bool.{Bool, true, false}
 use mathlib.Core.Path.{_≡_, refl, sym, ap, subst, _∙_}
 use mathlib.Core.List.{List, [], _∷_}
 use lib.Dec.{eqb}
-use lib.ListN.{length, take, drop, length-drop, drop-of-length-le}
-use lib.Seq.{take-length, drop-drop}
+use lib.ListN.{length, take, drop, drop-of-length-le}
+use lib.Seq.{drop-drop}
 use borrow.Author.Tests.{eq-eqb, ne-eqb, eqb-true, eqb-false}
 use Rattle.laws.specs.Choice.{if_then_else_}
+use Rattle.laws.proofs.Lists.{rest-is}
 use Rattle.threads.specs.declared.Found.{Found}
 use Rattle.threads.specs.declared.Found.the-variants.{At, Ready}
 use Rattle.threads.specs.Heads.{placeIn, readyPlace}
@@ -96,9 +97,6 @@ found-bound pick i n (t ∷ ts) l =
 abbrev rest : ℕ → List ℕ → List ℕ
 rest i hs = take (length hs - i) (drop i hs)
 
-rest-drop : (i : ℕ) (hs : List ℕ) → rest i hs ≡ drop i hs
-rest-drop i hs = rw (sym (length-drop i hs)) (take-length (drop i hs))
-
 -- what is found from head i on, with n ready before, is what is to be found
 pub record Sought (pick : ℕ) (hs : List ℕ) (i n : ℕ) : Type 0 where
   pub few : n ≤ pick
@@ -120,7 +118,7 @@ module _ {pick i n : ℕ} {hs : List ℕ} (s : Sought pick hs i n) where
         let a : i + 0 ≡ i = omega arith in
         let b : n + 0 ≡ n = omega arith in
         s .same ∙ found-split 4 pick i n (drop i hs)
-        ∙ rw (drop-drop 4 i hs, e ∙ four-answers (pick - n) 0 0 (rest i hs), rest-drop i hs) (ap (onward pick (i + 4) (drop (i + 4) hs)) (rw (p, a, b) at (found-moved i n (pick - n) 0 0 (take 4 (drop i hs)))))
+        ∙ rw (drop-drop 4 i hs, e ∙ four-answers (pick - n) 0 0 (rest i hs), rest-is i hs) (ap (onward pick (i + 4) (drop (i + 4) hs)) (rw (p, a, b) at (found-moved i n (pick - n) 0 0 (take 4 (drop i hs)))))
 
   module _ {k : ℕ} where
     pub fours-near : At k ≡ foundIn (pick - n) 0 0 (fourOf (rest i hs)) → k < 4

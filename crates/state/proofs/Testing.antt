@@ -3,15 +3,15 @@ use Prim.Native.Nat.{ℕ, suc, _+_, _*_, _-_, _≤_, _<_}
 use native.Mathlib.Omega.{arith}
 use mathlib.Core.Path.{_≡_, refl, sym, ap, _∙_}
 use mathlib.Core.Bool.{Bool, true, false, _&&_, not}
-use mathlib.Core.List.{List}
 use lib.Dec.{leb, eqb}
 use lib.ListN.{length, getD, take, drop, length-drop}
-use lib.Seq.{drop-drop, take-all}
+use lib.Seq.{drop-drop}
 use borrow.Author.Tests.{leb-true, le-leb, lt-leb, eq-eqb, ne-eqb}
 use Rattle.laws.specs.Choice.{if_then_else_}
 use Rattle.laws.proofs.Absurd.{clash}
 use Rattle.laws.proofs.Answers.{failed, passed}
 use Rattle.laws.proofs.Choice.{chosen, parted, second}
+use Rattle.laws.proofs.Lists.{rest-is}
 use Rattle.rules.specs.Calls.{fairShare}
 use Rattle.laying.specs.Laid.{Parts}
 use Rattle.inspection.specs.Sound.{soundOn}
@@ -165,17 +165,13 @@ module _ (l : ℕ) (p : Parts) {n : ℕ} (c : n ≡ share p) where
         pub first-sound : r ≡ true → Seat n ≡ firstIn l p
         first-sound g = sym (found true g)
 
--- a part up to the end
-rest : (n : ℕ) (l : List ℕ) → take (length l - n) (drop n l) ≡ drop n l
-rest n l = take-all (length l - n) (drop n l) (omega (arith, length-drop n l))
-
 pub ahead-is : (k a : ℕ) (p : Parts)
     → state (take (length (p .book) - k * 9) (drop (k * 9) (p .book))) (take (length (p .tags) - a) (drop a (p .tags))) (take (length (p .words) - a) (drop a (p .words)))
     (take (length (p .heads) - k * 32) (drop (k * 32) (p .heads))) (take (length (p .accs) - k * 32) (drop (k * 32) (p .accs)))
     (take (length (p .image) - k * 4096) (drop (k * 4096) (p .image)))
     ≡ ahead k a p
 ahead-is k a p =
-    alike (rest (k * 9) (p .book)) (rest a (p .tags)) (rest a (p .words)) (rest (k * 32) (p .heads)) (rest (k * 32) (p .accs)) (rest (k * 4096) (p .image))
+    alike (rest-is (k * 9) (p .book)) (rest-is a (p .tags)) (rest-is a (p .words)) (rest-is (k * 32) (p .heads)) (rest-is (k * 32) (p .accs)) (rest-is (k * 4096) (p .image))
 
 -- ---- the whole
 

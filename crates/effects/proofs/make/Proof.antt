@@ -41,8 +41,8 @@ put-record-requires c κs = search needs
 sum-or-requires : tie.Need-sum-or-requires
 sum-or-requires c κs = search needs
 
-count-used-requires : tie.Need-count-used-requires
-count-used-requires c κs = search needs
+count-with-requires : tie.Need-count-with-requires
+count-with-requires c κs = search needs
 
 same-length-2 : tie.Need-same-length-2
 same-length-2 c = search needs
@@ -58,7 +58,7 @@ same-length-5 c = search needs
 
 returns-2 : tie.Need-returns-2
 returns-2 c = λ words start. let s = c .before .before .before .before .before .before .before .before .before .before .before .before .before .before .before .before .before .before .before .before .before .before .before .before .before .args in
-    makes _ start _ (parts (s .book .now) (s .tags .now) words (s .heads .now) (s .accs .now)) refl (c .before .before .before .before .before .before .before .before .before .before .before .before .before .before .before .before .before .get322 .ensures) (c .before .before .before .before .before .before .before .before .before .before .before .before .before .before .before .before .before .before .before .get32 .ensures) (le-leb _ _ (c .before .before .before .before .before .before .before .before .before .before .before .before .before .before .before .before .if1 .left)) (c .before .before .before .sum-or .ensures) (c .before .before .before .before .before .before .before .before .before .before .before .before .before .before .make .ensures) (c .before .before .before .before .before .before .before .before .before .put-record .ensures) (c .before .before .count-used .ensures)
+    makes _ start _ (parts (s .book .now) (s .tags .now) words (s .heads .now) (s .accs .now)) refl (c .before .before .before .before .before .before .before .before .before .before .before .before .before .before .before .before .before .get322 .ensures) (c .before .before .before .before .before .before .before .before .before .before .before .before .before .before .before .before .before .before .before .get32 .ensures) (le-leb _ _ (c .before .before .before .before .before .before .before .before .before .before .before .before .before .before .before .before .if1 .left)) (c .before .before .before .sum-or .ensures) (c .before .before .before .before .before .before .before .before .before .before .before .before .before .before .make .ensures) (c .before .before .before .before .before .before .before .before .before .put-record .ensures) (c .before .before .count-with .ensures)
 
 pub make-spec : {M : Type 1} → statement M
 make-spec =
@@ -75,7 +75,7 @@ make-spec =
     make-requires
     put-record-requires
     sum-or-requires
-    count-used-requires
+    count-with-requires
     same-length-2
     same-length-3
     same-length-4

@@ -29,8 +29,8 @@ take-record-requires c κs = search needs
 one-less-requires : tie.Need-one-less-requires
 one-less-requires c κs = search needs
 
-count-live-requires : tie.Need-count-live-requires
-count-live-requires c κs = search needs
+count-with-requires : tie.Need-count-with-requires
+count-with-requires c κs = search needs
 
 enum-known-e-2 : tie.Need-enum-known-e-2
 enum-known-e-2 c = search needs
@@ -105,7 +105,7 @@ same-length-6 : tie.Need-same-length-6
 same-length-6 c = search needs
 
 returns-2 : tie.Need-returns-2
-returns-2 c = let s = c .before .before .before .before .before .before .before .before .before .before .before .before .before .before .before .before .before .before .before .before .before .before .before .args in ends _ _ _ (parts (s .book .now) (s .tags .now) (s .words .now) (s .heads .now) (s .accs .now)) (c .before .before .before .before .before .before .before .before .before .before .before .before .enum-told .given .1) (c .before .before .before .before .before .before .before .before .before .before .before .before .before .before .get322 .ensures) (c .before .before .before .one-less .ensures) (c .before .before .before .before .before .before .before .before .before .take-record .ensures) (c .before .before .count-live .ensures)
+returns-2 c = let s = c .before .before .before .before .before .before .before .before .before .before .before .before .before .before .before .before .before .before .before .before .before .before .before .args in ends _ _ _ (parts (s .book .now) (s .tags .now) (s .words .now) (s .heads .now) (s .accs .now)) (c .before .before .before .before .before .before .before .before .before .before .before .before .enum-told .given .1) (c .before .before .before .before .before .before .before .before .before .before .before .before .before .before .get322 .ensures) (c .before .before .before .one-less .ensures) (c .before .before .before .before .before .before .before .before .before .take-record .ensures) (c .before .before .count-with .ensures)
 
 same-length-7 : tie.Need-same-length-7
 same-length-7 c = search needs
@@ -200,7 +200,7 @@ perform-spec =
     enum-told
     take-record-requires
     one-less-requires
-    count-live-requires
+    count-with-requires
     enum-known-e-2
     wait-record-requires
     count-requires-2

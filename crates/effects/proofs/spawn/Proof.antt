@@ -29,8 +29,8 @@ spawn-record-requires c κs = search needs
 one-more-requires : tie.Need-one-more-requires
 one-more-requires c κs = search needs
 
-count-live-requires : tie.Need-count-live-requires
-count-live-requires c κs = search needs
+count-with-requires : tie.Need-count-with-requires
+count-with-requires c κs = search needs
 
 same-length-2 : tie.Need-same-length-2
 same-length-2 c = search needs
@@ -43,7 +43,7 @@ same-length-4 c = search needs
 
 returns-2 : tie.Need-returns-2
 returns-2 c = λ tags words start. let s = c .before .before .before .before .before .before .before .before .before .before .before .before .before .before .before .before .before .before .before .before .args in
-    spawns _ start _ (parts (s .book .now) tags words (s .heads .now) (s .accs .now)) refl (c .before .before .before .before .before .before .before .before .before .before .before .before .before .get322 .ensures) (c .before .before .before .before .before .before .before .before .before .before .before .before .before .before .before .get32 .ensures) (lt-ltb _ _ (c .before .before .before .before .before .before .before .before .before .before .before .before .if1 .left)) (c .before .before .before .one-more .ensures) (c .before .before .before .before .before .before .before .before .before .spawn-record .ensures) (c .before .before .count-live .ensures)
+    spawns _ start _ (parts (s .book .now) tags words (s .heads .now) (s .accs .now)) refl (c .before .before .before .before .before .before .before .before .before .before .before .before .before .get322 .ensures) (c .before .before .before .before .before .before .before .before .before .before .before .before .before .before .before .get32 .ensures) (lt-ltb _ _ (c .before .before .before .before .before .before .before .before .before .before .before .before .if1 .left)) (c .before .before .before .one-more .ensures) (c .before .before .before .before .before .before .before .before .before .spawn-record .ensures) (c .before .before .count-with .ensures)
 
 pub spawn-spec : {M : Type 1} → statement M
 spawn-spec =
@@ -56,7 +56,7 @@ spawn-spec =
     returns
     spawn-record-requires
     one-more-requires
-    count-live-requires
+    count-with-requires
     same-length-2
     same-length-3
     same-length-4

@@ -1,7 +1,7 @@
--- `book::count_live` meets its contract: the live threads, then the steps. Assumes nothing.
+-- `book::count_with` meets its contract: the number, then the steps. Assumes nothing.
 use borrow.Author.Needs.{needs}
-use Rattle.book.proofs.count_live.Statement.{statement}
-use Rattle.book.proofs.count_live.Tie as tie
+use Rattle.book.proofs.count_with.Statement.{statement}
+use Rattle.book.proofs.count_with.Tie as tie
 
 get32-requires : tie.Need-get32-requires
 get32-requires c κs = search needs
@@ -21,7 +21,7 @@ same-length c = search needs
 returns : tie.Need-returns
 returns c = rw (← c .before .before .before .before .before .before .before .before .before .get32 .ensures, ← c .before .before .before .one-more .ensures, ← c .before .before .before .before .before .before .before .put32 .ensures) (c .before .before .put322 .ensures)
 
-pub count-live-spec : {M : Type 1} → statement M
-count-live-spec =
+pub count-with-spec : {M : Type 1} → statement M
+count-with-spec =
     tie.close
     (tie.spec get32-requires put32-requires one-more-requires put32-requires-2 same-length returns)
