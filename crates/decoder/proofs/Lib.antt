@@ -1,0 +1,3 @@
+pub mod Shapes
+pub mod Behind
+pub mod Fetched
