@@ -1,3 +1,3 @@
 pub mod Shapes
-pub mod Behind
+pub mod Begins
 pub mod Fetched

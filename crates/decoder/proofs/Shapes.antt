@@ -35,6 +35,7 @@ there : (rest : List ℕ) {k : ℕ} → byteIn rest 0 ≡ suc k → leb 1 (lengt
 there [] e = clash (cc)
 there (x ∷ xs) e = le-leb 1 (length (x ∷ xs)) (omega arith)
 
+-- END, whether its byte is there or not
 ends : (t : Bool) → I.End ≡ (if t then I.End else I.End)
 ends true = refl
 ends false = refl

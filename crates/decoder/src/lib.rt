@@ -1,4 +1,4 @@
-// The instruction at a place of an image, decoded where it lies: one match on the kind byte, and tests that the compiler drops where they meet.
+// The instruction at a place of an image, decoded where it lies. Every read is total; the compiler drops its test behind that of `whole`.
 use kinds::Instruction;
 use kinds::bytes::byte_at;
 use kinds::bytes::pair_of;

@@ -1,6 +1,6 @@
 -- `decoder::instruction_at` meets its contract: the bytes from the place on begin with the instruction there. Assumes nothing.
 use borrow.Author.Needs.{needs}
-use Rattle.decoder.proofs.Behind.{past-end, begins}
+use Rattle.decoder.proofs.Begins.{past-end, begins}
 use Rattle.decoder.proofs.instruction_at.Statement.{statement}
 use Rattle.decoder.proofs.instruction_at.Tie as tie
 
