@@ -1,0 +1,3 @@
+pub mod Shapes
+pub mod Begins
+pub mod Fetched
