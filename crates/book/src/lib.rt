@@ -1,4 +1,6 @@
 // The nine numbers of a seat's book: read, changed by an effect, and written back.
+#![tactic(auto)]
+
 ghost use Rattle.std.specs.Prelude.{◌≡◌, ◌-◌, get_or, set};
 ghost use Rattle.book.specs.Book.{tally_in, sum_or, narrow};
 
@@ -9,7 +11,7 @@ pub const USED: usize = 4;
 
 pub const LIVE: usize = 5;
 
-#[derive(Drop)]
+#[derive(Clone, Copy)]
 pub struct Tally {
     pub cells: u32,
     pub threads: u32,

@@ -1,4 +1,6 @@
 // A seat's cells, as tags and words: looked at, and written after an effect. A seat's part of the lent buffers is all that is seen.
+#![tactic(auto)]
+
 ghost use Rattle.std.specs.Prelude.{◌≡◌, ◌-◌};
 ghost use Rattle.value.specs.Coding.{word_of};
 ghost use Rattle.cells.specs.Lent.{kind_bit, kind_in, tag_for, filled, slot_at, look_on, fresh_on};

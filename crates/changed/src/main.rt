@@ -1,4 +1,6 @@
 // A sheet can differ: W1 with a wrong sum, and with the right one after it.
+#![tactic(auto)]
+
 use lines::line;
 
 fn main() {

@@ -1,4 +1,6 @@
 // What an instruction does, decided over shared slices: one function a family, the tests in the paper's order. Nothing is written.
+#![tactic(auto)]
+
 ghost use Rattle.std.specs.Prelude.{◌≡◌};
 ghost use Rattle.kinds.specs.declared.Instruction.TheVariants as I;
 ghost use Rattle.cells.specs.Lent.{fresh_on, view_on};

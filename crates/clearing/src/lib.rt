@@ -1,4 +1,6 @@
 // Clearing: a seat as opening gave it.
+#![tactic(auto)]
+
 ghost use Rattle.std.specs.Prelude.{◌≡◌};
 ghost use Rattle.rules.specs.Calls.{clears};
 ghost use Rattle.state.specs.State.{state, Stands, machine_of};

@@ -1,11 +1,13 @@
 // One seat's parts, worked out by hand from docs/STATE.md, each damaged by one change: the code refuses them and takes their sound twins.
 // Most break one clause of soundness only. A number that several clauses speak of breaks them all: a share, more cells or threads than there is room for,
 // a bad image, whose code has no start, and a thread of a vacant seat.
+#![tactic(auto)]
+
 use inspection::sound;
 use lent::copy8;
 use lines::line;
 
-#[derive(Drop)]
+#[derive(Clone, Copy)]
 struct Seat {
     book: [u32; 9],
     tags: [u16; 8],

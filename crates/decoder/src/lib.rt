@@ -1,4 +1,6 @@
 // The instruction at a place of an image, decoded where it lies. Every read is total; the compiler drops its test behind that of `whole`.
+#![tactic(auto)]
+
 ghost use Rattle.std.specs.Prelude.{◌≡◌};
 ghost use Rattle.kinds.specs.declared.Instruction.TheVariants.{Switch};
 ghost use Rattle.kinds.specs.Bytes.{byte_in, pair_in};

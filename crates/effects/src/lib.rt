@@ -1,4 +1,6 @@
 // What an instruction asks for, written to the parts that it changes: one arm an effect, room tested first.
+#![tactic(auto)]
+
 ghost use Rattle.std.specs.Prelude.{◌≡◌, List, ℕ};
 ghost use Rattle.rules.specs.declared.Effect.TheVariants.{Makes, Spawns, Refuses};
 ghost use Rattle.effects.specs.Enacted as Enacted;

@@ -1,1 +1,2 @@
 // Histories of the five calls: theorems only, in proofs/.
+#![tactic(auto)]

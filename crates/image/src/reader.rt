@@ -8,7 +8,7 @@ use crate::starts::Fault;
 use crate::{records, starts};
 use kinds::Flow;
 
-#[derive(Drop)]
+#[derive(Clone, Copy)]
 pub enum Verdict {
     TooLong,
     BadAt(usize),

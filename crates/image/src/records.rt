@@ -6,7 +6,7 @@ use kinds::{Flow, Instruction, Meaning, Record};
 use value::Value;
 
 // What stands at a place of the code: nothing, no whole instruction, or one, with the place behind it.
-#[derive(Drop)]
+#[derive(Clone, Copy)]
 pub enum Step {
     Ended,
     Bad,
@@ -14,7 +14,7 @@ pub enum Step {
 }
 
 // The same without the instruction.
-#[derive(Drop)]
+#[derive(Clone, Copy)]
 pub enum Stride {
     Ended,
     Bad,
@@ -22,7 +22,7 @@ pub enum Stride {
 }
 
 // The same before the code: nothing, no good record, or one, with the place behind it.
-#[derive(Drop)]
+#[derive(Clone, Copy)]
 pub enum Head {
     Ended,
     Bad,
@@ -32,7 +32,7 @@ pub enum Head {
 }
 
 // The instruction at a position of the code, with the position behind it.
-#[derive(Drop)]
+#[derive(Clone, Copy)]
 pub enum Fetched {
     Is(Instruction, usize),
     Nothing,

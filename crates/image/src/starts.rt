@@ -9,7 +9,7 @@ use crate::records::Stride;
 use kinds::Flow;
 
 // Where an image is at fault.
-#[derive(Drop)]
+#[derive(Clone, Copy)]
 pub enum Fault {
     At(usize),
     Nowhere,

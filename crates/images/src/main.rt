@@ -1,4 +1,6 @@
 // Small images, worked out by hand from document 01, read by the code.
+#![tactic(auto)]
+
 use image::reader;
 use image::reader::Verdict;
 use lines::line;

@@ -14,7 +14,7 @@ use value::coding;
 use value::coding::Decoded;
 
 // What the threads of a claim stand on: cells used, the region's start, the start of the code.
-#[derive(Drop)]
+#[derive(Clone, Copy)]
 pub struct Ground {
     pub used: u32,
     pub start: u32,

@@ -1,4 +1,6 @@
 // What each kind byte of an image is: the record or instruction, the length of its body, and what its body means.
+#![tactic(auto)]
+
 pub mod bytes;
 
 ghost use Rattle.std.specs.Prelude.{◌≡◌};
@@ -13,7 +15,7 @@ use value::coding::Decoded;
 use value::{Value, coding, words};
 
 // One instruction with its operands: slots s and t, numbers k and n, positions a and b.
-#[derive(Drop)]
+#[derive(Clone, Copy)]
 pub enum Instruction {
     End,
     Int(i64),
@@ -41,14 +43,14 @@ pub enum Instruction {
 }
 
 // What a body of the code means: an instruction, or a kind unknown or a rule broken.
-#[derive(Drop)]
+#[derive(Clone, Copy)]
 pub enum Meaning {
     Is(Instruction),
     Broken,
 }
 
 // The same of the records before the code: 80 with its slots, an input, 85, or a kind unknown or a rule broken.
-#[derive(Drop)]
+#[derive(Clone, Copy)]
 pub enum Record {
     Slots(u8),
     Input(Value),
@@ -221,7 +223,7 @@ pub fn record_meant(kind: u8, body: &[u8]) -> Record
 }
 
 // Where a thread may go from an instruction: on to the next, nowhere, to a or b, or on with a new thread at a.
-#[derive(Drop)]
+#[derive(Clone, Copy)]
 pub enum Flow {
     On,
     Stops,

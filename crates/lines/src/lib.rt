@@ -1,4 +1,6 @@
 // A line of a program's output: a name, and whether it agrees with what was written down.
+#![tactic(auto)]
+
 use libc::STDOUT_FILENO;
 
 pub fn line(name: &[u8], agrees: bool) {

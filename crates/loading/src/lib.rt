@@ -1,4 +1,6 @@
 // Loading: an image read, and its claim laid into a vacant seat.
+#![tactic(auto)]
+
 ghost use Rattle.std.specs.Prelude.{◌≡◌};
 ghost use Rattle.state.specs.State.{state, Stands, machine_of};
 ghost use Rattle.calls.specs.Calls as Calls;

@@ -1,4 +1,6 @@
 // One seat's parts written whole: a claim loaded into them, and cleared away.
+#![tactic(auto)]
+
 ghost use Rattle.std.specs.Prelude.{◌≡◌, ◌%◌};
 ghost use Rattle.image.specs.Records.{inputs};
 ghost use Rattle.threads.specs.Row.{row};
@@ -13,14 +15,14 @@ use rules::Thread;
 use value::{Value, coding};
 
 // What is known of an image before anything is written: what the reader says of it, or the number and the place that refuse it.
-#[derive(Drop)]
+#[derive(Clone, Copy)]
 pub enum Judged {
     Fits(u8, usize, usize),
     Turned(u8, usize),
 }
 
 // A load's answer.
-#[derive(Drop)]
+#[derive(Clone, Copy)]
 pub struct Answer {
     pub number: u8,
     pub place: usize,

@@ -1,4 +1,6 @@
 // ADD, SUB, MUL, DIV, LESS and EQUAL on two values.
+#![tactic(auto)]
+
 pub mod floats;
 pub mod integers;
 
@@ -10,7 +12,7 @@ use value::wanted::{Answer, Real, Truth, Whole};
 use value::{Value, wanted};
 
 // Kinds 10 to 15 of document 01, in its order.
-#[derive(Drop)]
+#[derive(Clone, Copy)]
 pub enum Operation {
     Add,
     Sub,

@@ -1,4 +1,6 @@
 // Opening: shares fixed, every seat vacant, every byte of the machine's own wiped.
+#![tactic(auto)]
+
 ghost use Rattle.std.specs.Prelude.{◌≡◌, ◌&&◌, ◌+◌, ◌%◌, ◌≤◌, length, eqb, leb};
 ghost use Rattle.laws.specs.Lists.{all};
 ghost use Rattle.rules.specs.Calls.{fair_share, total, may_open};

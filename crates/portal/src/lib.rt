@@ -1,4 +1,6 @@
 // The five public calls for C and Rust: thin exports, numbers only. A slice goes as a pointer and a length.
+#![tactic(auto)]
+
 ghost use Rattle.std.specs.Prelude.{◌≡◌};
 ghost use Rattle.rules.specs.Claim.{status_number};
 ghost use Rattle.state.specs.State.{state};
@@ -11,7 +13,7 @@ use value::coding;
 
 // A load's answer: its number, and the place of a bad image.
 #[repr(C)]
-#[derive(Drop)]
+#[derive(Clone, Copy)]
 pub struct Lodged {
     pub number: u64,
     pub place: u64,
@@ -19,7 +21,7 @@ pub struct Lodged {
 
 // A report's answer: its number, then the report.
 #[repr(C)]
-#[derive(Drop)]
+#[derive(Clone, Copy)]
 pub struct Told {
     pub number: u32,
     pub status: u32,

@@ -1,4 +1,6 @@
 // Reporting: how a seat's claim stands. Nothing is written.
+#![tactic(auto)]
+
 ghost use Rattle.std.specs.Prelude.{◌≡◌};
 ghost use Rattle.rules.specs.Calls.{blank};
 ghost use Rattle.state.specs.State.{state, Stands, machine_of};
@@ -9,7 +11,7 @@ use state::seats::Region;
 use state::{seats, whole};
 
 // A report's answer.
-#[derive(Drop)]
+#[derive(Clone, Copy)]
 pub struct Reported {
     pub number: u8,
     pub report: Report,

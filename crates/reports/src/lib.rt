@@ -1,4 +1,6 @@
 // One seat's report.
+#![tactic(auto)]
+
 ghost use Rattle.std.specs.Prelude.{◌≡◌, ◌%◌};
 ghost use Rattle.reports.specs.Report.{standing, status_in, outcome_in, position_in, report_by, report_on};
 

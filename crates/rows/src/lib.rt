@@ -1,4 +1,6 @@
 // The search through a row of thread records that are structs: a head's four fields, the row laid out from heads, and the picked ready record.
+#![tactic(auto)]
+
 ghost use Rattle.std.specs.Prelude.{◌≡◌, take};
 ghost use Rattle.threads.specs.Row.{found_from};
 ghost use Rattle.rows.specs.Row.{thread_of, four_of, found_in};
@@ -7,7 +9,7 @@ use lent::get64;
 use threads::{Found, low16};
 
 // A head's four fields, from the low end.
-#[derive(Drop)]
+#[derive(Clone, Copy)]
 pub struct Thread {
     pub place: u16,
     pub position: u16,

@@ -1,14 +1,16 @@
 // The types that the rules and the code share. The rules are in specs/.
+#![tactic(auto)]
+
 use value::Value;
 
-#[derive(Drop)]
+#[derive(Clone, Copy)]
 pub enum Kind {
     Icell,
     Mcell,
 }
 
 // What a seat finds where it looks for a cell.
-#[derive(Drop)]
+#[derive(Clone, Copy)]
 pub enum Slot {
     Missing,
     Empty(Kind),
@@ -16,7 +18,7 @@ pub enum Slot {
 }
 
 // What the cell pointed to holds, or the number that it is refused by.
-#[derive(Drop)]
+#[derive(Clone, Copy)]
 pub enum Held {
     Holds(Value),
     Lacks,
@@ -24,13 +26,13 @@ pub enum Held {
 }
 
 // A size to allocate, or the number that it is refused by.
-#[derive(Drop)]
+#[derive(Clone, Copy)]
 pub enum Size {
     Is(u16),
     Refused(u8),
 }
 
-#[derive(Drop)]
+#[derive(Clone, Copy)]
 pub struct Thread {
     pub frame: u16,
     pub position: u16,
@@ -39,7 +41,7 @@ pub struct Thread {
 
 // What an instruction does. The first thread is the one that ran, as it goes on or waits; it lies at one place in every case, so
 // that it is read back as it was written.
-#[derive(Drop)]
+#[derive(Clone, Copy)]
 pub enum Effect {
     Goes(Thread),
     Ends,
@@ -51,7 +53,7 @@ pub enum Effect {
     Refuses(u8),
 }
 
-#[derive(Drop)]
+#[derive(Clone, Copy)]
 pub enum Status {
     Vacant,
     Running,
@@ -61,13 +63,13 @@ pub enum Status {
 }
 
 // The value of a claim's result; nothing differs from nil.
-#[derive(Drop)]
+#[derive(Clone, Copy)]
 pub enum Outcome {
     Nothing,
     Is(Value),
 }
 
-#[derive(Drop)]
+#[derive(Clone, Copy)]
 pub struct Report {
     pub status: Status,
     pub refusal: u8,

@@ -1,4 +1,6 @@
 // A run: the entries of a schedule, one after the other.
+#![tactic(auto)]
+
 ghost use Rattle.std.specs.Prelude.{◌≡◌, ◌+◌, ◌≤◌, ◌<◌, length};
 ghost use Rattle.rules.specs.Calls.{picks};
 ghost use Rattle.state.specs.State.{state, Stands, machine_of};

@@ -1,4 +1,6 @@
 // The worked sheets W1 to W10 of document 01, run through the public calls: a line a sheet.
+#![tactic(auto)]
+
 use lines::line;
 
 fn main() {

@@ -1,4 +1,6 @@
 // The tests of a slot and of the cell pointed to, each with the number that it refuses by.
+#![tactic(auto)]
+
 ghost use Rattle.std.specs.Prelude.{◌≡◌, ◌+◌};
 ghost use Rattle.cells.specs.Lent.{look_on};
 ghost use Rattle.rules.specs.Tests.{value_in, location_of, integer_of, truth_of, size_of, of_kind, cell_in};
@@ -11,7 +13,7 @@ use value::wanted;
 use value::wanted::{Answer, Place, Truth, Whole};
 
 // Where a thread stands: its seat's used cells and the start of their region, the position behind its instruction, and the thread.
-#[derive(Drop)]
+#[derive(Clone, Copy)]
 pub struct Standing {
     pub used: u32,
     pub start: u32,

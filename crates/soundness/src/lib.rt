@@ -1,1 +1,2 @@
 // No code: sound machines stay sound, proved in proofs/.
+#![tactic(auto)]

@@ -5,7 +5,7 @@ ghost use Rattle.state.specs.Seats.{Base, region_in};
 use lent::get32;
 
 // A seat's region: its cells, from the first to behind the last.
-#[derive(Drop)]
+#[derive(Clone, Copy)]
 pub enum Region {
     At(usize, usize),
     Nowhere,

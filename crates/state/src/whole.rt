@@ -7,7 +7,7 @@ use inspection::sound;
 use lent::{get32, is_bare32};
 
 // What is found of the first seat: none or an unsound one, and whether the state is sound so; or a sound one, with so many cells.
-#[derive(Drop)]
+#[derive(Clone, Copy)]
 pub enum First {
     Ends(bool),
     Seat(usize),

@@ -1,4 +1,6 @@
 // W10 of document 01 and arithmetic at its ends, run on the code and compared with values that were worked out elsewhere.
+#![tactic(auto)]
+
 use lines::line;
 use numbers::Operation;
 use value::wanted::{Answer, Place};

@@ -1,4 +1,6 @@
 // A seat's thread records, as heads and accumulators' words: read, searched, and written after an effect.
+#![tactic(auto)]
+
 ghost use Rattle.std.specs.Prelude.{◌≡◌, ◌-◌, ◌<◌, ◌%◌, length};
 ghost use Rattle.value.specs.Coding.{word_of};
 ghost use Rattle.threads.specs.Heads.{packed, head_of, ready_place, wait_place, readied, value_or, thread_in};
@@ -10,7 +12,7 @@ use value::coding::Decoded;
 use value::{Value, coding};
 
 // The place in the row of the picked ready record, or how many are ready.
-#[derive(Drop)]
+#[derive(Clone, Copy)]
 pub enum Found {
     At(usize),
     Ready(usize),

@@ -1,4 +1,6 @@
 // One pick on one seat: which thread runs, what it does, and what is written.
+#![tactic(auto)]
+
 ghost use Rattle.std.specs.Prelude.{◌≡◌, ◌%◌, take};
 ghost use Rattle.threads.specs.Row.{found_from};
 ghost use Rattle.effects.specs.Enacted.{parts, turned};
@@ -13,7 +15,7 @@ use slots::Standing;
 use threads::Found;
 
 // The row place of the thread to run, or the answer where none runs.
-#[derive(Drop)]
+#[derive(Clone, Copy)]
 pub enum Gate {
     Go(usize),
     Stop(u8),

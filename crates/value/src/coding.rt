@@ -4,13 +4,13 @@ ghost use Rattle.value.specs.Coding.{decoded, held_at, encoded};
 
 use crate::{Value, words};
 
-#[derive(Drop)]
+#[derive(Clone, Copy)]
 pub enum Decoded {
     Good(Value),
     Malformed,
 }
 
-#[derive(Drop)]
+#[derive(Clone, Copy)]
 pub struct Coded {
     pub tag: u16,
     pub word: u64,

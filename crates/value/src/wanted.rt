@@ -6,31 +6,31 @@ use crate::Value;
 use crate::refusals::WRONG_KIND;
 
 // What a test hands on, or the number of 01 that it refuses by: one enum a type.
-#[derive(Drop)]
+#[derive(Clone, Copy)]
 pub enum Whole {
     Is(i64),
     Refused(u8),
 }
 
-#[derive(Drop)]
+#[derive(Clone, Copy)]
 pub enum Real {
     Is(f64),
     Refused(u8),
 }
 
-#[derive(Drop)]
+#[derive(Clone, Copy)]
 pub enum Truth {
     Is(bool),
     Refused(u8),
 }
 
-#[derive(Drop)]
+#[derive(Clone, Copy)]
 pub enum Place {
     Is(u16),
     Refused(u8),
 }
 
-#[derive(Drop)]
+#[derive(Clone, Copy)]
 pub enum Answer {
     Is(Value),
     Refused(u8),

@@ -1,11 +1,13 @@
 // The worked sheets of document 01, each run through the public calls and compared with every fact that 01 writes of it.
+#![tactic(auto)]
+
 use lodging::Answer;
 use reporting::Reported;
 use rules::{Outcome, Report, Status};
 use value::{Value, words};
 
 // What a report should say. A float is given by its bits.
-#[derive(Drop)]
+#[derive(Clone, Copy)]
 pub enum Result {
     None,
     Nil,
@@ -14,7 +16,7 @@ pub enum Result {
     Location(u16),
 }
 
-#[derive(Drop)]
+#[derive(Clone, Copy)]
 pub struct Want {
     pub status: u8,
     pub refusal: u8,
@@ -113,7 +115,7 @@ fn says(r: Report, w: Want) -> bool {
 }
 
 // What the calls answered: the load, the run, its answer buffer, which held 255 before, the report, and the first three thread records.
-#[derive(Drop)]
+#[derive(Clone, Copy)]
 pub struct Seen {
     pub loaded: Answer,
     pub ran: u8,
