@@ -24,6 +24,7 @@ pub struct Tally {
     pub steps: u32,
 }
 
+#[tactic(auto, unfolding(crate::specs::Book::tally_in))]
 pub fn read_book(book: &[u32]) -> Tally
     ensures { result ≡ tally_in book.now }
 {
@@ -40,6 +41,7 @@ pub fn read_book(book: &[u32]) -> Tally
     }
 }
 
+#[tactic(auto, unfolding(crate::specs::Book::sum_or))]
 pub fn sum_or(a: u32, b: u32) -> u32
     ensures { result ≡ sum_or a b }
 {
@@ -58,6 +60,7 @@ pub fn one_less(n: u32) -> u32
     if 1 <= n { n - 1 } else { 0 }
 }
 
+#[tactic(auto, unfolding(crate::specs::Book::narrow))]
 fn narrowed(i: usize) -> u32
     ensures { result ≡ narrow i }
 {

@@ -13,6 +13,7 @@ use rules::{Kind, Slot};
 use value::coding::Decoded;
 use value::{Value, coding};
 
+#[tactic(auto, unfolding(crate::specs::Lent::kind_in))]
 fn kind_in(tag: u16) -> Kind
     ensures { result ≡ kind_in tag }
 {
@@ -23,6 +24,7 @@ fn kind_in(tag: u16) -> Kind
     }
 }
 
+#[tactic(auto, unfolding(crate::specs::Lent::kind_bit))]
 fn kind_bit(k: Kind) -> u16
     ensures { result ≡ kind_bit k }
 {
@@ -32,6 +34,7 @@ fn kind_bit(k: Kind) -> u16
     }
 }
 
+#[tactic(auto, unfolding(crate::specs::Lent::filled))]
 fn full_slot(k: Kind, d: Decoded) -> Slot
     ensures { result ≡ filled k d }
 {
@@ -41,6 +44,7 @@ fn full_slot(k: Kind, d: Decoded) -> Slot
     }
 }
 
+#[tactic(auto, unfolding(crate::specs::Lent::slot_at))]
 fn slot_at(tags: &[u16], words: &[u64], i: usize) -> Slot
     ensures { result ≡ slot_at tags.now words.now i }
 {
@@ -53,6 +57,7 @@ fn slot_at(tags: &[u16], words: &[u64], i: usize) -> Slot
 }
 
 // The cell at a location, as the seat sees it.
+#[tactic(auto, unfolding(crate::specs::Lent::look_on))]
 pub fn look(tags: &[u16], words: &[u64], used: u32, start: u32, l: usize) -> Slot
     ensures { result ≡ look_on tags.now words.now used start l }
 {
@@ -68,6 +73,7 @@ pub fn look(tags: &[u16], words: &[u64], used: u32, start: u32, l: usize) -> Slo
 }
 
 // The location of the next cell made.
+#[tactic(auto, unfolding(crate::specs::Lent::fresh_on))]
 pub fn fresh(used: u32, start: u32) -> u16
     ensures { result ≡ fresh_on used start }
 {
@@ -75,6 +81,7 @@ pub fn fresh(used: u32, start: u32) -> u16
     if l <= 65535 { l as u16 } else { 0 }
 }
 
+#[tactic(auto, unfolding(crate::specs::Lent::tag_for, value::specs::Coding::encoded))]
 fn tag_for(k: Kind, v: Value) -> u16
     ensures { result ≡ tag_for k v }
 {
@@ -82,6 +89,7 @@ fn tag_for(k: Kind, v: Value) -> u16
     c.tag + kind_bit(k)
 }
 
+#[tactic(auto, unfolding(value::specs::Coding::encoded))]
 fn word_for(v: Value) -> u64
     ensures { result ≡ word_of v }
 {
@@ -97,6 +105,7 @@ fn past(l: usize, start: u32) -> usize
     if first <= l { l - first } else { 0 }
 }
 
+#[tactic(auto, unfolding(crate::specs::Written::set_below))]
 fn put_below(n: u32, tags: &mut [u16], words: &mut [u64], i: usize, tag: u16, word: u64)
     ensures { (tags.new ≡ set_below n i tag tags.old) × (words.new ≡ set_below n i word words.old) }
 {
@@ -122,6 +131,7 @@ pub fn fill(tags: &mut [u16], words: &mut [u64], used: u32, start: u32, k: Kind,
 }
 
 // The M-cell at a location gives its value away.
+#[tactic(auto, unfolding(crate::specs::Lent::kind_bit))]
 pub fn empty(tags: &mut [u16], words: &mut [u64], used: u32, start: u32, l: usize)
     ensures { (tags.new ≡ set_below used (l - start) (kind_bit Mcell) tags.old) × (words.new ≡ set_below used (l - start) 0 words.old) }
 {

@@ -37,6 +37,7 @@ fn with_acc(at: Standing, acc: Value) -> Effect
     Effect::Goes(moved_to(at.after, th, acc))
 }
 
+#[tactic(auto, unfolding(rules::specs::Decide::decide))]
 fn load(tags: &[u16], words: &[u64], at: Standing, s: u8) -> Effect
     ensures { result ≡ decide at.after (view_on tags.now words.now at.used at.start) at.thread (I.Load s) }
 {
@@ -47,6 +48,7 @@ fn load(tags: &[u16], words: &[u64], at: Standing, s: u8) -> Effect
 }
 
 // Full or not, the accumulator becomes nil.
+#[tactic(auto, unfolding(rules::specs::Decide::decide, rules::specs::Decide::if_full))]
 fn touch(tags: &[u16], words: &[u64], at: Standing, s: u8) -> Effect
     ensures { result ≡ decide at.after (view_on tags.now words.now at.used at.start) at.thread (I.Touch s) }
 {
@@ -64,6 +66,7 @@ fn touch(tags: &[u16], words: &[u64], at: Standing, s: u8) -> Effect
 }
 
 // STORE, PUT, ISTORE and MSTORE, by what the cell at l holds.
+#[tactic(auto, unfolding(rules::specs::Decide::if_empty))]
 fn store_into(kind: Kind, l: usize, v: Value, at: Standing, h: Held) -> Effect
     ensures { result ≡ if_empty (Fills (thread at.after at.thread.frame at.thread.acc) kind l v) h }
 {
@@ -76,6 +79,7 @@ fn store_into(kind: Kind, l: usize, v: Value, at: Standing, h: Held) -> Effect
     }
 }
 
+#[tactic(auto, unfolding(rules::specs::Decide::decide))]
 fn store(tags: &[u16], words: &[u64], at: Standing, s: u8) -> Effect
     ensures { result ≡ decide at.after (view_on tags.now words.now at.used at.start) at.thread (I.Store s) }
 {
@@ -89,6 +93,7 @@ fn store(tags: &[u16], words: &[u64], at: Standing, s: u8) -> Effect
     store_into(Kind::Icell, frame as usize + s as usize, acc, at, h)
 }
 
+#[tactic(auto, unfolding(rules::specs::Decide::decide))]
 fn put(tags: &[u16], words: &[u64], at: Standing, s: u8, k: u8) -> Effect
     ensures { result ≡ decide at.after (view_on tags.now words.now at.used at.start) at.thread (I.Put s k) }
 {
@@ -104,6 +109,7 @@ fn put(tags: &[u16], words: &[u64], at: Standing, s: u8, k: u8) -> Effect
 }
 
 // ISTORE and MSTORE.
+#[tactic(auto, unfolding(rules::specs::Decide::stores))]
 fn store_at(tags: &[u16], words: &[u64], at: Standing, kind: Kind, s: u8, t: u8) -> Effect
     ensures { result ≡ stores at.after (view_on tags.now words.now at.used at.start) at.thread kind s t }
 {
@@ -120,6 +126,7 @@ fn store_at(tags: &[u16], words: &[u64], at: Standing, kind: Kind, s: u8, t: u8)
 }
 
 // IFETCH, GET and MFETCH, by what the cell at l holds, whatever else the thread may see.
+#[tactic(auto, unfolding(rules::specs::Decide::gives, rules::specs::Decide::if_full))]
 fn fetch_from(kind: Kind, l: usize, at: Standing, h: Held) -> Effect
     ensures { (see : View) → result ≡ if_full (gives at.after see at.thread kind l) (Waits (again at.after see at.thread) l) h }
 {
@@ -134,6 +141,7 @@ fn fetch_from(kind: Kind, l: usize, at: Standing, h: Held) -> Effect
     }
 }
 
+#[tactic(auto, unfolding(rules::specs::Decide::fetches))]
 fn fetch(tags: &[u16], words: &[u64], at: Standing, kind: Kind, s: u8, k: u8) -> Effect
     ensures { result ≡ fetches at.after (view_on tags.now words.now at.used at.start) at.thread kind s k }
 {
@@ -154,6 +162,7 @@ fn make(at: Standing, kind: Kind, n: u16) -> Effect
     Effect::Makes(moved_to(at.after, th, Value::Location(l)), kind, n)
 }
 
+#[tactic(auto, unfolding(rules::specs::Decide::allocates, rules::specs::Decide::makes))]
 fn allocate(tags: &[u16], words: &[u64], at: Standing, kind: Kind, s: u8) -> Effect
     ensures { result ≡ allocates at.after (view_on tags.now words.now at.used at.start) at.thread kind s }
 {
@@ -176,6 +185,7 @@ fn spawn(at: Standing, a: u16, frame: u16) -> Effect
     Effect::Spawns(moved_to(at.after, th, acc), new)
 }
 
+#[tactic(auto, unfolding(rules::specs::Decide::decide))]
 fn apply(tags: &[u16], words: &[u64], at: Standing, a: u16, s: u8) -> Effect
     ensures { result ≡ decide at.after (view_on tags.now words.now at.used at.start) at.thread (I.Apply a s) }
 {
@@ -185,6 +195,7 @@ fn apply(tags: &[u16], words: &[u64], at: Standing, a: u16, s: u8) -> Effect
     }
 }
 
+#[tactic(auto, unfolding(rules::specs::Decide::decide))]
 fn binary(tags: &[u16], words: &[u64], at: Standing, op: Operation, s: u8, t: u8) -> Effect
     ensures { result ≡ decide at.after (view_on tags.now words.now at.used at.start) at.thread (I.Binary op s t) }
 {
@@ -195,6 +206,7 @@ fn binary(tags: &[u16], words: &[u64], at: Standing, op: Operation, s: u8, t: u8
     }
 }
 
+#[tactic(auto, unfolding(rules::specs::Decide::decide))]
 fn offset(tags: &[u16], words: &[u64], at: Standing, s: u8, t: u8) -> Effect
     ensures { result ≡ decide at.after (view_on tags.now words.now at.used at.start) at.thread (I.Offset s t) }
 {
@@ -210,6 +222,7 @@ fn offset(tags: &[u16], words: &[u64], at: Standing, s: u8, t: u8) -> Effect
     }
 }
 
+#[tactic(auto, unfolding(rules::specs::Decide::decide))]
 fn switch(tags: &[u16], words: &[u64], at: Standing, s: u8, a: u16, b: u16) -> Effect
     ensures { result ≡ decide at.after (view_on tags.now words.now at.used at.start) at.thread (I.Switch s a b) }
 {
@@ -227,6 +240,7 @@ fn switch(tags: &[u16], words: &[u64], at: Standing, s: u8, a: u16, b: u16) -> E
 }
 
 // What the thread does by instruction i.
+#[tactic(auto, unfolding(rules::specs::Decide::decide, rules::specs::Decide::makes))]
 pub fn choose(tags: &[u16], words: &[u64], at: Standing, i: Instruction) -> Effect
     ensures { result ≡ decide at.after (view_on tags.now words.now at.used at.start) at.thread i }
 {

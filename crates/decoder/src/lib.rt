@@ -12,6 +12,7 @@ use kinds::bytes::{byte_at, pair_of, word_of};
 use numbers::Operation;
 use value::words;
 
+#[tactic(auto, unfolding(crate::specs::Decoded::meant_in, kinds::specs::Table::float_means))]
 fn float_of(word: u64) -> Instruction
     ensures { result ≡ meant_in (float_means word) }
 {
@@ -22,6 +23,7 @@ fn float_of(word: u64) -> Instruction
     Instruction::Float(f64::from_bits(word))
 }
 
+#[tactic(auto, unfolding(crate::specs::Decoded::meant_in, kinds::specs::Table::truth_means))]
 fn truth_of(byte: u8) -> Instruction
     ensures { result ≡ meant_in (truth_means byte) }
 {
@@ -31,6 +33,7 @@ fn truth_of(byte: u8) -> Instruction
     Instruction::End
 }
 
+#[tactic(auto, unfolding(crate::specs::Decoded::meant_in, kinds::specs::Table::frame_means))]
 fn frame_of(n: u8) -> Instruction
     ensures { result ≡ meant_in (frame_means n) }
 {
@@ -53,6 +56,7 @@ fn switch_of(rest: &[u8]) -> Instruction
 }
 
 // The eight bytes behind the kind byte.
+#[tactic(auto, unfolding(crate::specs::Decoded::word_behind))]
 fn word_at(rest: &[u8]) -> u64
     ensures { result ≡ word_behind rest.now }
 {
@@ -63,6 +67,7 @@ fn word_at(rest: &[u8]) -> u64
 }
 
 // The instruction, if its n bytes are there.
+#[tactic(auto, unfolding(crate::specs::Decoded::whole_in))]
 fn whole(rest: &[u8], n: usize, i: Instruction) -> Instruction
     ensures { result ≡ whole_in rest.now n i }
 {
@@ -73,6 +78,7 @@ fn whole(rest: &[u8], n: usize, i: Instruction) -> Instruction
 }
 
 // The instruction that the bytes begin with.
+#[tactic(auto, unfolding(kinds::specs::Table::instruction_kind, kinds::specs::Table::instructions))]
 fn decoded(rest: &[u8]) -> Instruction
     ensures { result ≡ decoded_in rest.now }
 {

@@ -19,6 +19,7 @@ pub enum Verdict {
     },
 }
 
+#[tactic(auto, unfolding(crate::specs::Reading::ending, kinds::specs::Flows::closes))]
 fn ending_at(f: Flow, at: usize) -> Fault
     ensures { result ≡ ending f at }
 {
@@ -48,6 +49,7 @@ fn walk_code(image: &[u8], code: usize) -> Fault
     }
 }
 
+#[tactic(auto, unfolding(crate::specs::Reading::judged))]
 fn read_code(image: &[u8], slots: u8, inputs: usize, code: usize) -> Verdict
     requires { length image.now ≤ 4096 }
     ensures { result ≡ read_code image.now slots inputs code }
@@ -89,6 +91,7 @@ fn read_inputs(image: &[u8], slots: u8, first: usize) -> Verdict
     }
 }
 
+#[tactic(auto, unfolding(crate::specs::Reading::read_first))]
 pub fn read(image: &[u8]) -> Verdict
     ensures { result ≡ read_image image.now }
 {

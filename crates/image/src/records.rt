@@ -38,6 +38,7 @@ pub enum Fetched {
     Nothing,
 }
 
+#[tactic(auto, unfolding(crate::specs::Records::stepped))]
 pub fn step_at(image: &[u8], at: usize) -> Step
     ensures { result ≡ step_at image.now at }
 {
@@ -78,6 +79,7 @@ pub fn stride_at(image: &[u8], at: usize) -> Stride
 }
 
 // Where a thread may go from the instruction at a place; on, where there is none. Only END, SWITCH, SPAWN and APPLY are made for it.
+#[tactic(auto, unfolding(crate::specs::Records::flow_in))]
 pub fn flow_at(image: &[u8], at: usize) -> Flow
     ensures { result ≡ flow_at image.now at }
 {
@@ -94,6 +96,7 @@ pub fn flow_at(image: &[u8], at: usize) -> Flow
     }
 }
 
+#[tactic(auto, unfolding(crate::specs::Records::fetched_by))]
 pub fn fetch(image: &[u8], code: u32, position: u16) -> Fetched
     ensures { result ≡ fetched_at image.now code position }
 {
@@ -106,6 +109,7 @@ pub fn fetch(image: &[u8], code: u32, position: u16) -> Fetched
     }
 }
 
+#[tactic(auto, unfolding(crate::specs::Records::headed))]
 pub fn head_at(image: &[u8], at: usize) -> Head
     ensures { result ≡ head_at image.now at }
 {

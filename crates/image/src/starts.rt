@@ -16,6 +16,7 @@ pub enum Fault {
 }
 
 // Whether an instruction starts at a position of the code, found by walking it.
+#[tactic(auto, unfolding(crate::specs::Reading::start))]
 pub fn is_start(image: &[u8], code: u32, position: u16) -> bool
     ensures { result ≡ start image.now code position }
 {
@@ -36,6 +37,7 @@ pub fn is_start(image: &[u8], code: u32, position: u16) -> bool
 }
 
 // A row of marks: 1 at each place where an instruction starts.
+#[tactic(auto, unfolding(crate::specs::Marks::marks))]
 fn marks_of(image: &[u8], code: usize) -> [u8; 4096]
     requires { length image.now ≤ 4096 }
     ensures { result ≡ marks image.now code }
@@ -54,6 +56,7 @@ fn marks_of(image: &[u8], code: usize) -> [u8; 4096]
     }
 }
 
+#[tactic(auto, unfolding(crate::specs::Marks::marked))]
 fn is_marked(row: &[u8], code: usize, position: u16) -> bool
     ensures { result ≡ marked row.now code position }
 {
@@ -67,6 +70,7 @@ fn is_marked(row: &[u8], code: usize, position: u16) -> bool
     row[code + p] == 1
 }
 
+#[tactic(auto, unfolding(crate::specs::Marks::all_marked, kinds::specs::Flows::targets))]
 fn targets_marked(row: &[u8], code: usize, f: Flow) -> bool
     ensures { result ≡ all_marked row.now code (targets f) }
 {

@@ -21,6 +21,7 @@ pub struct Ground {
     pub code: u32,
 }
 
+#[tactic(auto, unfolding(crate::specs::Tests::is_good))]
 fn is_good(d: Decoded) -> bool
     ensures { result ≡ Tests.is_good d }
 {
@@ -61,6 +62,7 @@ fn cells_stand(tags: &[u16], words: &[u64]) -> bool
 }
 
 // The used cells, and the rest bare.
+#[tactic(auto, unfolding(crate::specs::Tests::cell_stands, crate::specs::Tests::store_stands))]
 fn store_stands(tags: &[u16], words: &[u64], used: u32) -> bool
     ensures { result ≡ Tests.store_stands used tags.now words.now }
 {
@@ -81,6 +83,7 @@ fn store_stands(tags: &[u16], words: &[u64], used: u32) -> bool
     is_bare64(&words[k..])
 }
 
+#[tactic(auto, unfolding(rules::specs::Sound::is_empty))]
 fn is_empty(s: Slot) -> bool
     ensures { result ≡ is_empty s }
 {
@@ -92,6 +95,7 @@ fn is_empty(s: Slot) -> bool
 }
 
 // A thread's place: ready, or waiting on an empty cell of the seat.
+#[tactic(auto, unfolding(crate::specs::Tests::place_on, crate::specs::Tests::place_stands, laying::specs::Back::place_read))]
 fn place_stands(tags: &[u16], words: &[u64], g: Ground, place: u16) -> bool
     ensures { result ≡ Tests.place_stands tags.now words.now g place }
 {
@@ -165,6 +169,7 @@ fn records_stand(
 }
 
 // The live threads, and the rest bare.
+#[tactic(auto, unfolding(crate::specs::Tests::record_stands, crate::specs::Tests::row_stands))]
 fn row_stands(
     heads: &[u64],
     accs: &[u64],
@@ -193,6 +198,7 @@ fn row_stands(
 }
 
 // No refusal and no refused thread, or a refusal of 1 to 9 and a ready thread.
+#[tactic(auto, unfolding(crate::specs::Tests::refusal_stands))]
 fn refusal_stands(n: Tally, heads: &[u64]) -> bool
     ensures { result ≡ Tests.refusal_stands n heads.now }
 {
@@ -210,6 +216,7 @@ fn refusal_stands(n: Tally, heads: &[u64]) -> bool
 }
 
 // The numbers of the book, beside the reader's: slots of the root frame, and the start of the code.
+#[tactic(auto, unfolding(crate::specs::Tests::numbers_stand))]
 fn numbers_stand(n: Tally, slots: u8, code: usize) -> bool
     ensures { result ≡ Tests.numbers_stand n slots code }
 {
@@ -229,6 +236,7 @@ fn numbers_stand(n: Tally, slots: u8, code: usize) -> bool
     n.live <= 32
 }
 
+#[tactic(auto, unfolding(crate::specs::Tests::accepted_stands))]
 fn accepted_stands(n: Tally, v: Verdict) -> bool
     ensures { result ≡ Tests.accepted_stands n v }
 {
@@ -244,6 +252,7 @@ fn accepted_stands(n: Tally, v: Verdict) -> bool
 }
 
 // A claim in use, over its own image.
+#[tactic(auto, unfolding(crate::specs::Tests::claim_stands))]
 fn claim_stands(
     n: Tally,
     start: u32,
@@ -275,6 +284,7 @@ fn claim_stands(
 }
 
 // A book with nothing but its shares; the image's length is tested before.
+#[tactic(auto, unfolding(crate::specs::Tests::is_idle))]
 fn is_idle(n: Tally) -> bool
     ensures { result ≡ Tests.is_idle n }
 {
@@ -297,6 +307,7 @@ fn is_idle(n: Tally) -> bool
 }
 
 // Every part but the book is bare.
+#[tactic(auto, unfolding(crate::specs::Tests::parts_bare))]
 pub fn parts_bare(tags: &[u16], words: &[u64], heads: &[u64], accs: &[u64], image: &[u8]) -> bool
     ensures { result ≡ Tests.parts_bare tags.now words.now heads.now accs.now image.now }
 {
@@ -316,6 +327,7 @@ pub fn parts_bare(tags: &[u16], words: &[u64], heads: &[u64], accs: &[u64], imag
 }
 
 // A vacant seat: nothing but its shares.
+#[tactic(auto, unfolding(crate::specs::Tests::vacant_stands))]
 fn vacant_stands(
     n: Tally,
     tags: &[u16],
@@ -333,6 +345,7 @@ fn vacant_stands(
 }
 
 // Each part has its length.
+#[tactic(auto, unfolding(crate::specs::Tests::lengths_stand))]
 fn lengths_stand(
     book: &[u32],
     tags: &[u16],
@@ -363,6 +376,7 @@ fn lengths_stand(
 }
 
 // The image has room for that length, and zeros behind it.
+#[tactic(auto, unfolding(crate::specs::Tests::image_stands))]
 fn image_stands(length: u32, image: &[u8]) -> bool
     ensures { result ≡ Tests.image_stands length image.now }
 {
@@ -375,6 +389,7 @@ fn image_stands(length: u32, image: &[u8]) -> bool
 }
 
 // Any lengths and any contents: whether they are the parts of a sound claim, whose region starts at `start`.
+#[tactic(auto, unfolding(crate::specs::Tests::seat_stands, crate::specs::Tests::test_on))]
 pub fn seat_sound(
     book: &[u32],
     tags: &[u16],

@@ -27,6 +27,7 @@ fn quad_of(a: u8, b: u8, c: u8, d: u8) -> u32
 }
 
 // The number that a body of eight bytes is.
+#[tactic(auto, unfolding(crate::specs::Bytes::word_in))]
 pub fn word_of(body: &[u8]) -> u64
     ensures { result ≡ word_in body.now }
 {

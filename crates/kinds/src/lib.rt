@@ -59,6 +59,7 @@ pub enum Record {
 }
 
 // How many bytes follow the kind byte of an instruction; none where the kind is unknown.
+#[tactic(auto, unfolding(crate::specs::Table::instruction_kind, crate::specs::Table::instructions))]
 pub fn instruction_size(kind: u8) -> usize
     ensures { result ≡ (instruction_kind kind).size }
 {
@@ -74,6 +75,7 @@ pub fn instruction_size(kind: u8) -> usize
     }
 }
 
+#[tactic(auto, unfolding(crate::specs::Table::float_means))]
 fn float_meant(word: u64) -> Meaning
     ensures { result ≡ float_means word }
 {
@@ -84,6 +86,7 @@ fn float_meant(word: u64) -> Meaning
     Meaning::Is(Instruction::Float(f64::from_bits(word)))
 }
 
+#[tactic(auto, unfolding(crate::specs::Table::truth_means))]
 fn truth_meant(byte: u8) -> Meaning
     ensures { result ≡ truth_means byte }
 {
@@ -93,6 +96,7 @@ fn truth_meant(byte: u8) -> Meaning
     Meaning::Broken
 }
 
+#[tactic(auto, unfolding(crate::specs::Table::frame_means))]
 fn frame_meant(n: u8) -> Meaning
     ensures { result ≡ frame_means n }
 {
@@ -108,6 +112,7 @@ fn binary_meant(op: Operation, s: u8, t: u8) -> Meaning
     Meaning::Is(Instruction::Binary { op, s, t })
 }
 
+#[tactic(auto, unfolding(crate::specs::Table::switch_means))]
 fn switch_meant(body: &[u8]) -> Meaning
     ensures { result ≡ switch_means body.now }
 {
@@ -121,6 +126,7 @@ fn switch_meant(body: &[u8]) -> Meaning
 }
 
 // What an instruction's body means.
+#[tactic(auto, unfolding(crate::specs::Table::instruction_kind, crate::specs::Table::instructions))]
 pub fn instruction_meant(kind: u8, body: &[u8]) -> Meaning
     ensures { result ≡ (instruction_kind kind).means body.now }
 {
@@ -163,6 +169,7 @@ pub fn instruction_meant(kind: u8, body: &[u8]) -> Meaning
 }
 
 // Whether an instruction's body means anything. Only a FLOAT is made for it.
+#[tactic(auto, unfolding(crate::specs::Table::instruction_kind, crate::specs::Table::instructions, crate::specs::Table::is_meant))]
 pub fn is_meant(kind: u8, body: &[u8]) -> bool
     ensures { result ≡ is_meant ((instruction_kind kind).means body.now) }
 {
@@ -179,6 +186,7 @@ pub fn is_meant(kind: u8, body: &[u8]) -> bool
 }
 
 // How many bytes follow the kind byte of a record before the code.
+#[tactic(auto, unfolding(crate::specs::Table::record_kind, crate::specs::Table::records))]
 pub fn record_size(kind: u8) -> usize
     ensures { result ≡ (record_kind kind).size }
 {
@@ -189,6 +197,7 @@ pub fn record_size(kind: u8) -> usize
     }
 }
 
+#[tactic(auto, unfolding(crate::specs::Table::slots_means))]
 fn slots_meant(r: u8) -> Record
     ensures { result ≡ slots_means r }
 {
@@ -198,6 +207,7 @@ fn slots_meant(r: u8) -> Record
     Record::Wrong
 }
 
+#[tactic(auto, unfolding(crate::specs::Table::input_means))]
 fn input_meant(d: Decoded) -> Record
     ensures { result ≡ input_means d }
 {
@@ -208,6 +218,7 @@ fn input_meant(d: Decoded) -> Record
 }
 
 // What the body of a record before the code means.
+#[tactic(auto, unfolding(crate::specs::Table::input_means, crate::specs::Table::record_kind, crate::specs::Table::records, value::specs::Coding::decoded, value::specs::Coding::only))]
 pub fn record_meant(kind: u8, body: &[u8]) -> Record
     ensures { result ≡ (record_kind kind).means body.now }
 {
@@ -231,6 +242,7 @@ pub enum Flow {
     Forks(u16),
 }
 
+#[tactic(auto, unfolding(crate::specs::Flows::flow_of))]
 pub fn flow_of(i: Instruction) -> Flow
     ensures { result ≡ flow_of i }
 {

@@ -28,6 +28,7 @@ pub struct Answer {
     pub place: usize,
 }
 
+#[tactic(auto, unfolding(crate::specs::Lodged::book_for))]
 fn start_book(book: &mut [u32], long: u32, code: u32, used: u32, live: u32)
     ensures { book.new ≡ Lodged.book_for long code used live book.old }
 {
@@ -52,6 +53,7 @@ fn low16(x: u32) -> u16
     (x % 65536) as u16
 }
 
+#[tactic(auto, unfolding(crate::specs::Lodged::judged_by, image::specs::Reading::number_of, image::specs::Reading::place_of))]
 fn judge_by(share: u32, v: Verdict) -> Judged
     ensures { result ≡ Lodged.judged_by share v }
 {
@@ -72,6 +74,7 @@ fn judge_by(share: u32, v: Verdict) -> Judged
     }
 }
 
+#[tactic(auto, unfolding(crate::specs::Lodged::judged))]
 fn judge(book: &[u32], image: &[u8]) -> Judged
     ensures { result ≡ Lodged.judged book.now image.now }
 {
@@ -105,6 +108,7 @@ fn write_inputs(tags: &mut [u16], words: &mut [u64], image: &[u8], n: usize)
 }
 
 // The one ready thread of a claim just loaded.
+#[tactic(auto, unfolding(crate::specs::Lodged::rooted))]
 fn write_root(heads: &mut [u64], accs: &mut [u64], start: u32)
     ensures { Lodged.rooted start (row heads.old accs.old) ≡ row heads.new accs.new }
 {

@@ -18,6 +18,7 @@ fn is_finite(x: f64) -> bool
     }
 }
 
+#[tactic(auto, unfolding(crate::specs::Floats::finitely))]
 fn if_finite(x: f64) -> Real
     ensures { result ≡ finitely x }
 {
@@ -47,6 +48,7 @@ pub fn mul(a: f64, b: f64) -> Real
 }
 
 // A zero of either sign equals 0.0.
+#[tactic(auto, unfolding(crate::specs::Floats::quotient))]
 pub fn div(a: f64, b: f64) -> Real
     ensures { result ≡ quotient a b }
 {

@@ -21,6 +21,7 @@ pub fn magnitude(z: i64) -> u64
 }
 
 // The largest magnitude that a product of numbers with these signs may have.
+#[tactic(auto, unfolding(crate::specs::Integers::room_for))]
 fn room_for(a: i64, b: i64) -> u64
     ensures { result ≡ room_for a b }
 {

@@ -23,6 +23,7 @@ pub enum Operation {
 }
 
 // Slot s alone: whether the operation takes this value as its first, tested before slot t is read.
+#[tactic(auto, unfolding(crate::specs::Operations::takes_booleans, crate::specs::Operations::takes_first))]
 pub fn takes_first(op: Operation, v: Value) -> bool
     ensures { result ≡ takes_first op v }
 {
@@ -42,6 +43,7 @@ pub fn takes_first(op: Operation, v: Value) -> bool
     }
 }
 
+#[tactic(auto, unfolding(crate::specs::Operations::whole))]
 fn whole_answer(w: Whole) -> Answer
     ensures { result ≡ whole w }
 {
@@ -51,6 +53,7 @@ fn whole_answer(w: Whole) -> Answer
     }
 }
 
+#[tactic(auto, unfolding(crate::specs::Operations::real))]
 fn real_answer(f: Real) -> Answer
     ensures { result ≡ real f }
 {
@@ -60,6 +63,7 @@ fn real_answer(f: Real) -> Answer
     }
 }
 
+#[tactic(auto, unfolding(crate::specs::Operations::on_integers))]
 fn on_integers(op: Operation, x: i64, y: i64) -> Answer
     ensures { result ≡ on_integers op x y }
 {
@@ -73,6 +77,7 @@ fn on_integers(op: Operation, x: i64, y: i64) -> Answer
     }
 }
 
+#[tactic(auto, unfolding(crate::specs::Operations::on_floats))]
 fn on_floats(op: Operation, x: f64, y: f64) -> Answer
     ensures { result ≡ on_floats op x y }
 {
@@ -86,6 +91,7 @@ fn on_floats(op: Operation, x: f64, y: f64) -> Answer
     }
 }
 
+#[tactic(auto, unfolding(crate::specs::Operations::on_booleans, crate::specs::Operations::takes_first))]
 fn on_booleans(op: Operation, x: bool, y: bool) -> Answer
     ensures { result ≡ on_booleans op x y }
 {
@@ -97,6 +103,7 @@ fn on_booleans(op: Operation, x: bool, y: bool) -> Answer
 }
 
 // Both slots read: the second has the first one's kind.
+#[tactic(auto, unfolding(crate::specs::Operations::operated, crate::specs::Operations::with_boolean, crate::specs::Operations::with_float, crate::specs::Operations::with_integer))]
 pub fn operate(op: Operation, a: Value, b: Value) -> Answer
     ensures { result ≡ operated op a b }
 {

@@ -34,6 +34,7 @@ pub struct Told {
     pub word: u64,
 }
 
+#[tactic(auto, unfolding(rules::specs::Claim::status_number))]
 fn status_number(s: Status) -> u32
     ensures { result ≡ status_number s }
 {
@@ -46,6 +47,7 @@ fn status_number(s: Status) -> u32
     }
 }
 
+#[tactic(auto, unfolding(crate::specs::Numbers::kind_of, value::specs::Coding::encoded))]
 fn kind_of(o: Outcome) -> u32
     ensures { result ≡ kind_of o }
 {
@@ -58,6 +60,7 @@ fn kind_of(o: Outcome) -> u32
     }
 }
 
+#[tactic(auto, unfolding(crate::specs::Numbers::bits_of, value::specs::Coding::encoded))]
 fn bits_of(o: Outcome) -> u64
     ensures { result ≡ bits_of o }
 {
@@ -70,6 +73,7 @@ fn bits_of(o: Outcome) -> u64
     }
 }
 
+#[tactic(auto, unfolding(crate::specs::Numbers::told_as))]
 fn told_as(s: Reported) -> Told
     ensures { result ≡ told_as (Calls.shown s.number s.report) }
 {

@@ -18,6 +18,7 @@ pub struct Reported {
 }
 
 // A refused report: zeros, with no result.
+#[tactic(auto, unfolding(rules::specs::Calls::blank))]
 fn blank_report() -> Report
     ensures { result ≡ blank }
 {

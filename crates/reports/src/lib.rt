@@ -10,6 +10,7 @@ use lent::get64;
 use rules::{Outcome, Report, Slot, Status};
 use threads::Found;
 
+#[tactic(auto, unfolding(crate::specs::Report::standing))]
 fn standing_of(n: Tally, f: Found) -> Status
     ensures { result ≡ standing n f }
 {
@@ -24,6 +25,7 @@ fn standing_of(n: Tally, f: Found) -> Status
     }
 }
 
+#[tactic(auto, unfolding(crate::specs::Report::status_in))]
 fn status_of(n: Tally, f: Found) -> Status
     ensures { result ≡ status_in n f }
 {
@@ -46,6 +48,7 @@ fn outcome_of(s: Slot) -> Outcome
     }
 }
 
+#[tactic(auto, unfolding(crate::specs::Report::position_in))]
 fn position_of(n: Tally, heads: &[u64]) -> u16
     ensures { result ≡ position_in n heads.now }
 {
@@ -62,6 +65,7 @@ fn low8(x: u32) -> u8
     (x % 256) as u8
 }
 
+#[tactic(auto, unfolding(crate::specs::Report::report_by))]
 fn report_by(n: Tally, tags: &[u16], words: &[u64], heads: &[u64]) -> Report
     ensures { result ≡ report_by n tags.now words.now heads.now }
 {
@@ -78,6 +82,7 @@ fn report_by(n: Tally, tags: &[u16], words: &[u64], heads: &[u64]) -> Report
     }
 }
 
+#[tactic(auto, unfolding(crate::specs::Report::report_on))]
 pub fn report_seat(book: &[u32], tags: &[u16], words: &[u64], heads: &[u64]) -> Report
     ensures { result ≡ report_on book.now tags.now words.now heads.now }
 {

@@ -17,6 +17,7 @@ pub struct Thread {
     pub tag: u16,
 }
 
+#[tactic(auto, unfolding(crate::specs::Row::thread_of))]
 fn thread_of(head: u64) -> Thread
     ensures { result ≡ thread_of head }
 {
@@ -29,6 +30,7 @@ fn thread_of(head: u64) -> Thread
 }
 
 // A search through the lent row: the pick-th ready record, or how many are ready.
+#[tactic(auto, unfolding(crate::proofs::find_in::Code::routine))]
 pub fn find_in(row: &[Thread], pick: usize) -> Found
     ensures { result ≡ found_in pick 0 0 row.now }
 {
@@ -49,6 +51,7 @@ pub fn find_in(row: &[Thread], pick: usize) -> Found
 }
 
 // The same on a row that is a local: it is lent whole.
+#[tactic(auto, unfolding(crate::proofs::find_row::Code::routine))]
 pub fn find_row(row: [Thread; 4], pick: usize) -> Found
     ensures { result ≡ found_in pick 0 0 row }
 {
@@ -56,6 +59,7 @@ pub fn find_row(row: [Thread; 4], pick: usize) -> Found
 }
 
 // The first four heads as structs, which are a copy of them.
+#[tactic(auto, unfolding(crate::specs::Row::four_of))]
 fn four(heads: &[u64]) -> [Thread; 4]
     ensures { result ≡ four_of heads.now }
 {

@@ -28,6 +28,7 @@ pub fn cell_at(tags: &[u16], words: &[u64], used: u32, start: u32, l: u16, k: u8
     cells::look(tags, words, used, start, l as usize + k as usize)
 }
 
+#[tactic(auto, unfolding(rules::specs::Tests::value_in))]
 fn value_in(s: Slot) -> Answer
     ensures { result ≡ value_in s }
 {
@@ -52,6 +53,7 @@ pub fn slot_value(tags: &[u16], words: &[u64], at: Standing, s: u8) -> Answer
     value_in(cell_at(tags, words, at.used, at.start, th.frame, s))
 }
 
+#[tactic(auto, unfolding(rules::specs::Tests::location_of))]
 pub fn location_of(a: Answer) -> Place
     ensures { result ≡ location_of a }
 {
@@ -61,6 +63,7 @@ pub fn location_of(a: Answer) -> Place
     }
 }
 
+#[tactic(auto, unfolding(rules::specs::Tests::integer_of))]
 pub fn integer_of(a: Answer) -> Whole
     ensures { result ≡ integer_of a }
 {
@@ -70,6 +73,7 @@ pub fn integer_of(a: Answer) -> Whole
     }
 }
 
+#[tactic(auto, unfolding(rules::specs::Tests::truth_of))]
 pub fn truth_of(a: Answer) -> Truth
     ensures { result ≡ truth_of a }
 {
@@ -79,6 +83,7 @@ pub fn truth_of(a: Answer) -> Truth
     }
 }
 
+#[tactic(auto, unfolding(rules::specs::Tests::size_of))]
 pub fn size_of(w: Whole) -> Size
     ensures { result ≡ size_of w }
 {
@@ -96,6 +101,7 @@ pub fn size_of(w: Whole) -> Size
     }
 }
 
+#[tactic(auto, unfolding(rules::specs::Tests::of_kind))]
 fn of_kind(k: Kind, j: Kind, h: Held) -> Held
     ensures { result ≡ of_kind k j h }
 {
@@ -111,6 +117,7 @@ fn of_kind(k: Kind, j: Kind, h: Held) -> Held
     }
 }
 
+#[tactic(auto, unfolding(rules::specs::Tests::cell_in))]
 pub fn cell_in(k: Kind, s: Slot) -> Held
     ensures { result ≡ cell_in k s }
 {
@@ -122,6 +129,7 @@ pub fn cell_in(k: Kind, s: Slot) -> Held
 }
 
 // The first slot is judged whole before what the second holds counts.
+#[tactic(auto, unfolding(rules::specs::Decide::with_first, rules::specs::Decide::with_second))]
 pub fn with_first(op: Operation, s: Answer, t: Answer) -> Answer
     ensures { result ≡ with_first op s t }
 {

@@ -4,6 +4,7 @@ ghost use Rattle.rules.specs.Calls.{fair_share};
 ghost use Rattle.state.specs.State.{is_long};
 
 // Whether each buffer has its minimum length.
+#[tactic(auto, unfolding(crate::specs::State::is_long))]
 pub fn is_long(
     book: usize,
     tags: usize,
@@ -32,6 +33,7 @@ pub fn is_long(
     32768 <= images
 }
 
+#[tactic(auto, unfolding(rules::specs::Calls::fair_share))]
 pub fn is_fair(cells: u32, threads: u32) -> bool
     ensures { result ≡ fair_share (record { cells = cells; threads = threads }) }
 {

@@ -12,6 +12,7 @@ pub enum Region {
 }
 
 // Where seat k's cells start: the sum of the shares before it.
+#[tactic(auto, unfolding(crate::specs::Seats::base_of))]
 fn base_of(book: &[u32], k: usize) -> usize
     requires { k ≤ 8 }
     ensures { Base book.now k result }
@@ -26,6 +27,7 @@ fn base_of(book: &[u32], k: usize) -> usize
 }
 
 // A seat is there if its cell share is not 0.
+#[tactic(auto, unfolding(crate::specs::Seats::region_in))]
 pub fn region_of(book: &[u32], k: usize) -> Region
     ensures { result ≡ region_in book.now k }
 {

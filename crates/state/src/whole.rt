@@ -13,6 +13,7 @@ pub enum First {
     Seat(usize),
 }
 
+#[tactic(auto, unfolding(crate::specs::State::bare))]
 fn all_bare(
     book: &[u32],
     tags: &[u16],

@@ -31,12 +31,14 @@ pub fn low16(x: u64) -> u16
     (x % 65536) as u16
 }
 
+#[tactic(auto, unfolding(crate::specs::Heads::packed))]
 fn pack(place: u16, position: u16, frame: u16, tag: u16) -> u64
     ensures { result ≡ packed place position frame tag }
 {
     wide(place) + 65536 * (wide(position) + 65536 * (wide(frame) + 65536 * wide(tag)))
 }
 
+#[tactic(auto, unfolding(crate::specs::Heads::head_of, value::specs::Coding::encoded))]
 fn head_of(place: u16, t: Thread) -> u64
     ensures { result ≡ head_of place t }
 {
@@ -45,6 +47,7 @@ fn head_of(place: u16, t: Thread) -> u64
     pack(place, t.position, t.frame, c.tag)
 }
 
+#[tactic(auto, unfolding(value::specs::Coding::encoded))]
 fn word_of(v: Value) -> u64
     ensures { result ≡ word_of v }
 {
@@ -52,6 +55,7 @@ fn word_of(v: Value) -> u64
     c.word
 }
 
+#[tactic(auto, unfolding(crate::specs::Heads::value_or))]
 fn value_or(d: Decoded) -> Value
     ensures { result ≡ value_or d }
 {
@@ -62,6 +66,7 @@ fn value_or(d: Decoded) -> Value
 }
 
 // The thread of a record.
+#[tactic(auto, unfolding(crate::specs::Heads::thread_in))]
 pub fn thread_in(head: u64, word: u64) -> Thread
     ensures { result ≡ thread_in head word }
 {
@@ -75,6 +80,7 @@ pub fn thread_in(head: u64, word: u64) -> Thread
     }
 }
 
+#[tactic(auto, unfolding(crate::specs::Heads::wait_place))]
 fn wait_place(l: usize) -> u16
     ensures { result ≡ wait_place l }
 {
@@ -158,6 +164,7 @@ fn wake_first(heads: &mut [u64], accs: &mut [u64], live: usize, place: u16)
 }
 
 // A record written: the place 1 is ready.
+#[tactic(auto, unfolding(crate::specs::Row::put_at))]
 pub fn put_record(heads: &mut [u64], accs: &mut [u64], i: usize, place: u16, t: Thread)
     ensures { put_at i place t (row heads.old accs.old) ≡ row heads.new accs.new }
 {
@@ -167,6 +174,7 @@ pub fn put_record(heads: &mut [u64], accs: &mut [u64], i: usize, place: u16, t: 
 }
 
 // The thread at i leaves the row.
+#[tactic(auto, unfolding(crate::specs::Row::taken_at))]
 pub fn take_record(heads: &mut [u64], accs: &mut [u64], i: usize)
     ensures { taken_at i (row heads.old accs.old) ≡ row heads.new accs.new }
 {

@@ -21,6 +21,7 @@ pub enum Gate {
     Stop(u8),
 }
 
+#[tactic(auto, unfolding(crate::specs::Turn::gate_by))]
 fn gate_by(n: Tally, f: Found) -> Gate
     ensures { result ≡ Turn.gate_by n f }
 {
@@ -44,6 +45,7 @@ fn gate_by(n: Tally, f: Found) -> Gate
 }
 
 // The row is searched only where a claim may run, and only its live records.
+#[tactic(auto, unfolding(crate::specs::Turn::gate_of))]
 fn gate_of(n: Tally, heads: &[u64], pick: usize) -> Gate
     ensures { result ≡ Turn.gate_of n (found_from pick 0 0 (take n.live heads.now)) }
 {

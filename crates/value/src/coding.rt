@@ -16,6 +16,7 @@ pub struct Coded {
     pub word: u64,
 }
 
+#[tactic(auto, unfolding(crate::specs::Coding::decoded, crate::specs::Coding::only))]
 pub fn decode(tag: u16, word: u64) -> Decoded
     ensures { result ≡ decoded tag word }
 {
@@ -51,6 +52,7 @@ pub fn decode(tag: u16, word: u64) -> Decoded
 }
 
 // The value that cell i of the lent slices holds.
+#[tactic(auto, unfolding(crate::specs::Coding::held_at))]
 pub fn held_at(tags: &[u16], words: &[u64], i: usize) -> Decoded
     ensures { result ≡ held_at tags.now words.now i }
 {
@@ -63,6 +65,7 @@ pub fn held_at(tags: &[u16], words: &[u64], i: usize) -> Decoded
     Decoded::Malformed
 }
 
+#[tactic(auto, unfolding(crate::specs::Coding::encoded, crate::specs::Coding::tag_of, crate::specs::Coding::word_of))]
 pub fn encode(v: Value) -> Coded
     ensures { result ≡ encoded v }
 {

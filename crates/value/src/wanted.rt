@@ -36,6 +36,7 @@ pub enum Answer {
     Refused(u8),
 }
 
+#[tactic(auto, unfolding(crate::specs::Wanted::as_integer))]
 pub fn as_integer(v: Value) -> Whole
     ensures { result ≡ as_integer v }
 {
@@ -45,6 +46,7 @@ pub fn as_integer(v: Value) -> Whole
     Whole::Is(z)
 }
 
+#[tactic(auto, unfolding(crate::specs::Wanted::as_float))]
 pub fn as_float(v: Value) -> Real
     ensures { result ≡ as_float v }
 {
@@ -54,6 +56,7 @@ pub fn as_float(v: Value) -> Real
     Real::Is(x)
 }
 
+#[tactic(auto, unfolding(crate::specs::Wanted::as_boolean))]
 pub fn as_boolean(v: Value) -> Truth
     ensures { result ≡ as_boolean v }
 {
@@ -63,6 +66,7 @@ pub fn as_boolean(v: Value) -> Truth
     Truth::Is(b)
 }
 
+#[tactic(auto, unfolding(crate::specs::Wanted::as_location))]
 pub fn as_location(v: Value) -> Place
     ensures { result ≡ as_location v }
 {

@@ -1,0 +1,13 @@
+-- `lent::wipe32` meets its contract. The loop's invariant: the first i are zero, and the rest is as before. Assumes nothing.
+use Prim.Native.Nat.{◌-◌}
+use lib.ListN.{length, length-set}
+use borrow.Author.Rules.{rules}
+use Rattle.lent.specs.Runs.{wiped}
+use Rattle.lent.proofs.Writes.{Written, wipe-start, wipe_on, wipe-end}
+use Rattle.lent.proofs.wipe32.Given as goal
+
+abbrev pub invariant-loop-i : goal.invariant-loop-i
+invariant-loop-i l = Written (wiped l.initial.s) l.initial.s l.s l.i
+
+abbrev pub decreases-loop-i : goal.decreases-loop-i
+decreases-loop-i l = length l.s - l.i

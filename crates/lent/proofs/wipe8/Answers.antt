@@ -1,0 +1,23 @@
+-- `lent::wipe8` meets its contract. The loop's invariant: the first i are zero, and the rest is as before. Assumes nothing.
+use Prim.Native.Nat.{◌-◌}
+use lib.ListN.{length, length-set}
+use borrow.Author.Rules.{rules}
+use Rattle.lent.specs.Runs.{wiped}
+use Rattle.lent.proofs.Writes.{Written, wipe-start, wipe_on, wipe-end}
+use Rattle.lent.proofs.wipe8.Goals as goal
+
+pub loop-i-init : goal.loop-i-init
+loop-i-init c = wipe-start _
+
+pub loop-i-smaller : goal.loop-i-smaller
+loop-i-smaller c = simp length-set (search rules)
+
+pub loop-i-preserved : goal.loop-i-preserved
+loop-i-preserved c = wipe_on c.loop-i.invariant c.loop-i-test.true
+
+-- ?? no goal for same-length
+-- same_length : tie.Need-same-length invariant-loop decreases-loop
+-- same_length c = c.before.loop.invariant.long
+
+pub returns : goal.returns
+returns c = wipe-end c.loop-i.invariant c.loop-i-test.false
