@@ -11,16 +11,11 @@ loop-j-init c = (refl, refl, wake-start c.requires)
 
 pub loop-j-preserved-then-head-place : goal.loop-j-preserved-then-head-place
 loop-j-preserved-then-head-place c =
-    let second = c.before in
-    let first = second.before.before.before.before in
-    let made = first.before in
-    let then = made.before.before.before in
-    let turn = then.before.before in
-    let l = turn.before.loop.invariant in (
-      first.shift_in.auto.0 ∙ l.0,
-      second.shift-in2.auto.0 ∙ l.1,
-      rw (first.shift_in.ensures, second.shift-in2.ensures, made.made-ready.ensures)
-          (wake-move l.2 turn.loop-test.true then.if1.true),
+    let l = c.loop-j.invariant in (
+      c.shift_in.auto.s ∙ l.0,
+      c.shift_in-then-head-place.auto.s ∙ l.1,
+      rw (c.shift_in.ensures, c.shift_in-then-head-place.ensures, c.made_ready.ensures)
+          (wake-move l.2 c.loop-j-test.true c.if-head-place.true),
     )
 
 pub loop-j-preserved : goal.loop-j-preserved

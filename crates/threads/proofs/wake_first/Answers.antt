@@ -11,6 +11,4 @@ returns-then-accs-live c = few-accs _ _ _ _ c.if-heads-live.false c.if-accs-live
 
 pub returns : goal.returns
 returns c =
-    let call = c.before in
-    let tests = call.before.before.before.before in
-    all-woken _ _ _ _ tests.before.if1.false tests.if2.false call.before.wide.ensures call.wake.ensures
+    all-woken _ _ _ _ c.if-heads-live.false c.if-accs-live.false c.wide.ensures c.wake.ensures
