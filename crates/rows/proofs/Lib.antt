@@ -1,3 +1,2 @@
 pub mod Search
 pub mod Fours
-pub mod Parts

@@ -2,10 +2,10 @@
 use Prim.Native.Nat.{ℕ, ◌+◌, ◌-◌, ◌≤◌, ◌<◌}
 use native.Mathlib.Omega.{arith}
 use native.Mathlib.Numerals.{add-one}
-use mathlib.Core.Bool.{Bool, true, false, not}
+use borrow.Author.Tests.{eq-eqb, ne_eqb}
 use mathlib.Core.Path.{◌≡◌, refl, sym, ap, ◌∙◌}
 use mathlib.Core.List.{List, ◌∷◌}
-use lib.Dec.{T, eqb, eqb→eq}
+use lib.Dec.{eqb}
 use lib.ListN.{length, get_or, drop, drop_of_length-le}
 use lib.Seq.{drop-cons}
 use Rattle.laws.specs.Choice.{if◌then◌else◌}
@@ -18,14 +18,6 @@ use Rattle.rows.specs.Row.{found_in}
 abbrev pub bare : Thread
 bare = record { place = 0; position = 0; frame = 0; tag = 0 }
 
-held : (b : Bool) → T b → b ≡ true
-held true h = refl
-held false h = absurd h
-
-failed : (b : Bool) → T (not b) → b ≡ false
-failed true h = absurd h
-failed false h = refl
-
 -- with `left` records to look at from i on, and n ready before: what is found from there is what is to be found
 pub record Sought (pick : ℕ) (ts : List Thread) (left i n : ℕ) : Type 0 where
   pub all : i + left ≡ length ts
@@ -33,10 +25,8 @@ pub record Sought (pick : ℕ) (ts : List Thread) (left i n : ℕ) : Type 0 wher
   pub same : found_in pick 0 0 ts ≡ found_in pick i n (drop i ts)
 
 -- at the row's start none is passed
-pub search-start : {pick : ℕ} {ts : List Thread} (i n : ℕ) → T (eqb i 0) → T (eqb n 0) → Sought pick ts (length ts) i n
-search-start {pick} {ts} i n a b =
-    let z : Sought pick ts (length ts) 0 0 = record { all = omega arith; few = omega arith; same = refl } in
-    rw (eqb→eq i 0 a, eqb→eq n 0 b) z
+pub search-start : {pick : ℕ} {ts : List Thread} → Sought pick ts (length ts) 0 0
+search-start = record { all = omega arith; few = omega arith; same = refl }
 
 module _ {pick left i n : ℕ} {ts : List Thread} (s : Sought pick ts left i n) where
   -- there is a record to look at
@@ -52,16 +42,16 @@ module _ {pick left i n : ℕ} {ts : List Thread} (s : Sought pick ts left i n) 
     unfolding found_in
     turn = let d : drop i ts ≡ get_or ts i bare ∷ drop (i + 1) ts = rw add-one (drop-cons ts i bare search-inside) in s.same ∙ ap (found_in pick i n) d
 
-    pub search-here : T (eqb (get_or ts i bare).place ready_place) → T (eqb n pick) → At i ≡ found_in pick 0 0 ts
-    search-here p e = sym (turn ∙ rw (held (eqb (get_or ts i bare).place ready_place) p, held (eqb n pick) e))
+    pub search-here : (get_or ts i bare).place ≡ ready_place → n ≡ pick → At i ≡ found_in pick 0 0 ts
+    search-here p e = sym (turn ∙ rw (eq-eqb _ _ p, eq-eqb _ _ e))
 
-    pub search-more : T (eqb (get_or ts i bare).place ready_place) → T (not (eqb n pick)) → Sought pick ts (left - 1) (i + 1) (n + 1)
+    pub search-more : (get_or ts i bare).place ≡ ready_place → (n ≡ pick → ⊥) → Sought pick ts (left - 1) (i + 1) (n + 1)
     search-more p e =
-        record { all = omega (arith, s.all); few = omega (arith, s.few); same = turn ∙ rw (held (eqb (get_or ts i bare).place ready_place) p, failed (eqb n pick) e) }
+        record { all = omega (arith, s.all); few = omega (arith, s.few); same = turn ∙ rw (eq-eqb _ _ p, ne_eqb _ _ e) }
 
-    pub search-past : T (not (eqb (get_or ts i bare).place ready_place)) → Sought pick ts (left - 1) (i + 1) n
+    pub search-past : ((get_or ts i bare).place ≡ ready_place → ⊥) → Sought pick ts (left - 1) (i + 1) n
     search-past p =
-        record { all = omega (arith, s.all); few = omega (arith, s.few); same = turn ∙ rw (failed (eqb (get_or ts i bare).place ready_place) p) }
+        record { all = omega (arith, s.all); few = omega (arith, s.few); same = turn ∙ rw (ne_eqb _ _ p) }
 
   pub search-end : left ≤ 0 → Ready n ≡ found_in pick 0 0 ts
   unfolding found_in

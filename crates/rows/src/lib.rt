@@ -30,7 +30,6 @@ fn thread_of(head: u64) -> Thread
 }
 
 // A search through the lent row: the pick-th ready record, or how many are ready.
-#[tactic(auto, unfolding(crate::proofs::find_in::Code::routine))]
 pub fn find_in(row: &[Thread], pick: usize) -> Found
     ensures { result ≡ found_in pick 0 0 row.now }
 {
@@ -51,7 +50,6 @@ pub fn find_in(row: &[Thread], pick: usize) -> Found
 }
 
 // The same on a row that is a local: it is lent whole.
-#[tactic(auto, unfolding(crate::proofs::find_row::Code::routine))]
 pub fn find_row(row: [Thread; 4], pick: usize) -> Found
     ensures { result ≡ found_in pick 0 0 row }
 {
