@@ -38,6 +38,7 @@ fn status_of(n: Tally, f: Found) -> Status
     Status::Refused
 }
 
+#[tactic(auto, unfolding(crate::specs::Report::outcome_in))]
 fn outcome_of(s: Slot) -> Outcome
     ensures { result ≡ outcome_in s }
 {

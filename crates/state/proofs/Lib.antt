@@ -5,3 +5,4 @@ pub mod Stands
 pub mod Pieces
 pub mod Testing
 pub mod Regions
+pub mod Sums

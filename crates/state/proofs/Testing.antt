@@ -144,11 +144,11 @@ module _ (l : ℕ) (p : Parts) {n : ℕ} (c : n ≡ share p) where
   first-none z e = rw (← c, eq-eqb n 0 z, e)
 
   module _ (z : n ≡ 0 → ⊥) {t : ℕ} (d : t ≡ get_or p.book 1 0) {fair : Bool} (f : fair ≡ fair_share (record { cells = n; threads = t })) where
-    pub first-unfair : not fair ≡ true → Ends false ≡ first_in l p
+    pub first-unfair : fair ≡ false → Ends false ≡ first_in l p
     unfolding first_in fair_at
     first-unfair e = rw (← c, ← d, ne_eqb n 0 z, failed f e)
 
-    module _ (e : not fair ≡ false) where
+    module _ (e : fair ≡ true) where
       pub first-over : l ≤ 2048 → 2048 - l < n → Ends false ≡ first_in l p
       unfolding first_in fair_at
       first-over i h = rw (← c, ← d, ne_eqb n 0 z, passed f e, lt-leb (l + n) 2048 (omega arith))
