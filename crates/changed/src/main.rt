@@ -2,8 +2,11 @@
 #![tactic(auto)]
 
 use lines::line;
+use std::io;
 
-fn main() {
-    line(b"W1", worked::w1(13));
-    line(b"W1", worked::w1(12));
+fn main(rt: HostRuntime) -> io::Result<()> {
+    let mut out = rt.stdout();
+    line(&mut out, b"W1", worked::w1(13))?;
+    line(&mut out, b"W1", worked::w1(12))?;
+    Ok(())
 }

@@ -6,6 +6,8 @@
 use inspection::sound;
 use lent::copy8;
 use lines::line;
+use std::io;
+use std::io::Write;
 
 #[derive(Clone, Copy)]
 struct Seat {
@@ -29,60 +31,60 @@ fn stands(s: Seat) -> bool {
 }
 
 // The twin stands, and the damaged one does not.
-fn damaged(name: &[u8], twin: Seat, seat: Seat) {
+fn damaged<W: Write>(out: &mut W, name: &[u8], twin: Seat, seat: Seat) -> io::Result<()> {
     if stands(twin) {
-        line(name, !stands(seat));
+        line(out, name, !stands(seat))
     } else {
-        line(name, false);
+        line(out, name, false)
     }
 }
 
-fn in_book(name: &[u8], s: Seat, i: usize, n: u32) {
+fn in_book<W: Write>(out: &mut W, name: &[u8], s: Seat, i: usize, n: u32) -> io::Result<()> {
     let mut d = s;
     if i < 9 {
         d.book[i] = n;
     }
-    damaged(name, s, d);
+    damaged(out, name, s, d)
 }
 
-fn in_tags(name: &[u8], s: Seat, i: usize, n: u16) {
+fn in_tags<W: Write>(out: &mut W, name: &[u8], s: Seat, i: usize, n: u16) -> io::Result<()> {
     let mut d = s;
     if i < 8 {
         d.tags[i] = n;
     }
-    damaged(name, s, d);
+    damaged(out, name, s, d)
 }
 
-fn in_words(name: &[u8], s: Seat, i: usize, n: u64) {
+fn in_words<W: Write>(out: &mut W, name: &[u8], s: Seat, i: usize, n: u64) -> io::Result<()> {
     let mut d = s;
     if i < 8 {
         d.words[i] = n;
     }
-    damaged(name, s, d);
+    damaged(out, name, s, d)
 }
 
-fn in_heads(name: &[u8], s: Seat, i: usize, n: u64) {
+fn in_heads<W: Write>(out: &mut W, name: &[u8], s: Seat, i: usize, n: u64) -> io::Result<()> {
     let mut d = s;
     if i < 32 {
         d.heads[i] = n;
     }
-    damaged(name, s, d);
+    damaged(out, name, s, d)
 }
 
-fn in_accs(name: &[u8], s: Seat, i: usize, n: u64) {
+fn in_accs<W: Write>(out: &mut W, name: &[u8], s: Seat, i: usize, n: u64) -> io::Result<()> {
     let mut d = s;
     if i < 32 {
         d.accs[i] = n;
     }
-    damaged(name, s, d);
+    damaged(out, name, s, d)
 }
 
-fn in_image(name: &[u8], s: Seat, i: usize, n: u8) {
+fn in_image<W: Write>(out: &mut W, name: &[u8], s: Seat, i: usize, n: u8) -> io::Result<()> {
     let mut d = s;
     if i < 4096 {
         d.image[i] = n;
     }
-    damaged(name, s, d);
+    damaged(out, name, s, d)
 }
 
 // Place, position, frame and the accumulator's tag.
@@ -253,125 +255,135 @@ fn short_image(s: Seat) -> bool {
     sound::seat_sound(&book, &tags, &words, &heads, &accs, &image, s.start)
 }
 
-fn lengths() {
+fn lengths<W: Write>(out: &mut W) -> io::Result<()> {
     let s = added();
-    line(b"each part as long as it should be", stands(s));
-    line(b"book too short", !short_book(s));
-    line(b"tags too short", !short_tags(s));
-    line(b"words too short", !short_words(s));
-    line(b"heads too short", !short_heads(s));
-    line(b"accumulators too short", !short_accs(s));
-    line(b"image part too short", !short_image(s));
+    line(out, b"each part as long as it should be", stands(s))?;
+    line(out, b"book too short", !short_book(s))?;
+    line(out, b"tags too short", !short_tags(s))?;
+    line(out, b"words too short", !short_words(s))?;
+    line(out, b"heads too short", !short_heads(s))?;
+    line(out, b"accumulators too short", !short_accs(s))?;
+    line(out, b"image part too short", !short_image(s))?;
+    Ok(())
 }
 
-fn books() {
+fn books<W: Write>(out: &mut W) -> io::Result<()> {
     let s = added();
-    in_book(b"share below the cells lent", s, 0, 7);
-    in_book(b"share above the cells lent", s, 0, 9);
-    in_book(b"more threads than the share", s, 1, 0);
-    in_book(b"image cut short", s, 2, 26);
-    in_book(b"image over the limit", s, 2, 4097);
-    in_book(b"code starts too early", s, 3, 20);
-    in_book(b"code starts too late", s, 3, 24);
-    in_book(b"fewer cells than slots", spent(), 4, 0);
-    in_book(b"more cells than the share", s, 4, 9);
-    in_book(b"a thread not counted", s, 5, 0);
-    in_book(b"a thread too many", s, 5, 2);
-    in_book(b"more threads than records", s, 5, 33);
+    in_book(out, b"share below the cells lent", s, 0, 7)?;
+    in_book(out, b"share above the cells lent", s, 0, 9)?;
+    in_book(out, b"more threads than the share", s, 1, 0)?;
+    in_book(out, b"image cut short", s, 2, 26)?;
+    in_book(out, b"image over the limit", s, 2, 4097)?;
+    in_book(out, b"code starts too early", s, 3, 20)?;
+    in_book(out, b"code starts too late", s, 3, 24)?;
+    in_book(out, b"fewer cells than slots", spent(), 4, 0)?;
+    in_book(out, b"more cells than the share", s, 4, 9)?;
+    in_book(out, b"a thread not counted", s, 5, 0)?;
+    in_book(out, b"a thread too many", s, 5, 2)?;
+    in_book(out, b"more threads than records", s, 5, 33)?;
+    Ok(())
 }
 
-fn cells() {
+fn cells<W: Write>(out: &mut W) -> io::Result<()> {
     let s = added();
-    in_tags(b"value tag 6", s, 1, 6);
-    in_tags(b"value tag 7", s, 1, 7);
-    in_tags(b"a bit above the kind", s, 0, 16);
-    in_tags(b"a bit above a value", s, 2, 17);
-    in_tags(b"boolean 5", s, 1, 3);
-    in_tags(b"nil with a word", s, 1, 4);
-    in_tags(b"empty with a word", s, 1, 0);
-    in_words(b"word of an empty cell", s, 0, 1);
-    in_tags(b"tag of an unmade cell", s, 3, 8);
-    in_tags(b"tag of the last unmade cell", s, 7, 1);
-    in_words(b"word of an unmade cell", s, 3, 1);
-    in_words(b"word of the last unmade cell", s, 7, 1);
+    in_tags(out, b"value tag 6", s, 1, 6)?;
+    in_tags(out, b"value tag 7", s, 1, 7)?;
+    in_tags(out, b"a bit above the kind", s, 0, 16)?;
+    in_tags(out, b"a bit above a value", s, 2, 17)?;
+    in_tags(out, b"boolean 5", s, 1, 3)?;
+    in_tags(out, b"nil with a word", s, 1, 4)?;
+    in_tags(out, b"empty with a word", s, 1, 0)?;
+    in_words(out, b"word of an empty cell", s, 0, 1)?;
+    in_tags(out, b"tag of an unmade cell", s, 3, 8)?;
+    in_tags(out, b"tag of the last unmade cell", s, 7, 1)?;
+    in_words(out, b"word of an unmade cell", s, 3, 1)?;
+    in_words(out, b"word of the last unmade cell", s, 7, 1)?;
     let t = taking();
-    in_words(b"location over 65,535", t, 0, 65536);
-    in_words(b"word of an empty M-cell", t, 2, 1);
+    in_words(out, b"location over 65,535", t, 0, 65536)?;
+    in_words(out, b"word of an empty M-cell", t, 2, 1)?;
     let f = finished();
-    in_words(b"infinite float", f, 0, 0x7FF0_0000_0000_0000);
-    in_words(b"float that is no number", f, 0, 0xFFF8_0000_0000_0001);
+    in_words(out, b"infinite float", f, 0, 0x7FF0_0000_0000_0000)?;
+    in_words(out, b"float that is no number", f, 0, 0xFFF8_0000_0000_0001)?;
+    Ok(())
 }
 
-fn threads() {
+fn threads<W: Write>(out: &mut W) -> io::Result<()> {
     let s = added();
-    in_heads(b"place 0", s, 0, head(0, 3, 0, 1));
-    in_heads(b"waits on a full cell", s, 0, head(3, 3, 0, 1));
-    in_heads(b"waits on an unmade cell", s, 0, head(5, 3, 0, 1));
-    in_heads(b"waits past the region", s, 0, head(10, 3, 0, 1));
-    in_heads(b"position inside a body", s, 0, head(1, 4, 0, 1));
-    in_heads(b"position past the code", s, 0, head(1, 6, 0, 1));
-    in_heads(b"no accumulator", s, 0, head(1, 3, 0, 0));
-    in_heads(b"accumulator's tag 6", s, 0, head(1, 3, 0, 6));
+    in_heads(out, b"place 0", s, 0, head(0, 3, 0, 1))?;
+    in_heads(out, b"waits on a full cell", s, 0, head(3, 3, 0, 1))?;
+    in_heads(out, b"waits on an unmade cell", s, 0, head(5, 3, 0, 1))?;
+    in_heads(out, b"waits past the region", s, 0, head(10, 3, 0, 1))?;
+    in_heads(out, b"position inside a body", s, 0, head(1, 4, 0, 1))?;
+    in_heads(out, b"position past the code", s, 0, head(1, 6, 0, 1))?;
+    in_heads(out, b"no accumulator", s, 0, head(1, 3, 0, 0))?;
+    in_heads(out, b"accumulator's tag 6", s, 0, head(1, 3, 0, 6))?;
     in_heads(
+        out,
         b"accumulator's tag with the kind's bit",
         s,
         0,
         head(1, 3, 0, 9),
-    );
-    in_heads(b"accumulator nil with a word", s, 0, head(1, 3, 0, 4));
-    in_accs(b"accumulator's word of nil", waiting(), 0, 1);
-    in_accs(b"accumulator boolean 2", taking(), 0, 2);
-    in_heads(b"head of a free record", s, 1, head(1, 3, 0, 4));
-    in_heads(b"head of the last record", s, 31, 1);
-    in_accs(b"word of a free record", s, 1, 1);
-    in_accs(b"word of the last record", s, 31, 1);
+    )?;
+    in_heads(out, b"accumulator nil with a word", s, 0, head(1, 3, 0, 4))?;
+    in_accs(out, b"accumulator's word of nil", waiting(), 0, 1)?;
+    in_accs(out, b"accumulator boolean 2", taking(), 0, 2)?;
+    in_heads(out, b"head of a free record", s, 1, head(1, 3, 0, 4))?;
+    in_heads(out, b"head of the last record", s, 31, 1)?;
+    in_accs(out, b"word of a free record", s, 1, 1)?;
+    in_accs(out, b"word of the last record", s, 31, 1)?;
     let mut before = waiting();
     before.start = 6;
-    damaged(b"waits before the region", waiting(), before);
+    damaged(out, b"waits before the region", waiting(), before)?;
+    Ok(())
 }
 
-fn images() {
+fn images<W: Write>(out: &mut W) -> io::Result<()> {
     let s = added();
-    in_image(b"no 80 first", s, 0, 0x81);
-    in_image(b"no slots", s, 1, 0);
-    in_image(b"an input too many", s, 1, 2);
-    in_image(b"an unknown kind", s, 21, 0x1C);
-    in_image(b"last instruction of the wrong kind", s, 26, 4);
-    in_image(b"byte behind the image", s, 27, 1);
-    in_image(b"last byte of the part", s, 4095, 1);
+    in_image(out, b"no 80 first", s, 0, 0x81)?;
+    in_image(out, b"no slots", s, 1, 0)?;
+    in_image(out, b"an input too many", s, 1, 2)?;
+    in_image(out, b"an unknown kind", s, 21, 0x1C)?;
+    in_image(out, b"last instruction of the wrong kind", s, 26, 4)?;
+    in_image(out, b"byte behind the image", s, 27, 1)?;
+    in_image(out, b"last byte of the part", s, 4095, 1)?;
+    Ok(())
 }
 
-fn refusals() {
+fn refusals<W: Write>(out: &mut W) -> io::Result<()> {
     let s = refused();
-    in_book(b"refusal 10", s, 6, 10);
-    in_book(b"refusal 256", s, 6, 256);
-    in_book(b"refused thread that is not there", s, 7, 1);
-    in_book(b"refused thread far away", s, 7, 65536);
-    in_book(b"refused thread without a refusal", taking(), 7, 1);
-    in_book(b"refused thread that waits", taking_refused(), 7, 1);
+    in_book(out, b"refusal 10", s, 6, 10)?;
+    in_book(out, b"refusal 256", s, 6, 256)?;
+    in_book(out, b"refused thread that is not there", s, 7, 1)?;
+    in_book(out, b"refused thread far away", s, 7, 65536)?;
+    in_book(out, b"refused thread without a refusal", taking(), 7, 1)?;
+    in_book(out, b"refused thread that waits", taking_refused(), 7, 1)?;
+    Ok(())
 }
 
-fn vacancies() {
+fn vacancies<W: Write>(out: &mut W) -> io::Result<()> {
     let s = vacant();
-    in_book(b"vacant with a code", s, 3, 1);
-    in_book(b"vacant with a cell", s, 4, 1);
-    in_book(b"vacant with a thread", s, 5, 1);
-    in_book(b"vacant with a refusal", s, 6, 1);
-    in_book(b"vacant with a refused thread", s, 7, 1);
-    in_book(b"vacant with a step", s, 8, 1);
-    in_tags(b"vacant with a tag", s, 0, 8);
-    in_words(b"vacant with a word", s, 7, 1);
-    in_heads(b"vacant with a head", s, 0, 1);
-    in_accs(b"vacant with an accumulator", s, 31, 1);
-    in_image(b"vacant with a byte", s, 9, 1);
+    in_book(out, b"vacant with a code", s, 3, 1)?;
+    in_book(out, b"vacant with a cell", s, 4, 1)?;
+    in_book(out, b"vacant with a thread", s, 5, 1)?;
+    in_book(out, b"vacant with a refusal", s, 6, 1)?;
+    in_book(out, b"vacant with a refused thread", s, 7, 1)?;
+    in_book(out, b"vacant with a step", s, 8, 1)?;
+    in_tags(out, b"vacant with a tag", s, 0, 8)?;
+    in_words(out, b"vacant with a word", s, 7, 1)?;
+    in_heads(out, b"vacant with a head", s, 0, 1)?;
+    in_accs(out, b"vacant with an accumulator", s, 31, 1)?;
+    in_image(out, b"vacant with a byte", s, 9, 1)?;
+    Ok(())
 }
 
-fn main() {
-    lengths();
-    books();
-    cells();
-    threads();
-    images();
-    refusals();
-    vacancies();
+fn main(rt: HostRuntime) -> io::Result<()> {
+    let mut out = rt.stdout();
+    lengths(&mut out)?;
+    books(&mut out)?;
+    cells(&mut out)?;
+    threads(&mut out)?;
+    images(&mut out)?;
+    refusals(&mut out)?;
+    vacancies(&mut out)?;
+    Ok(())
 }

@@ -1,13 +1,14 @@
 // A line of a program's output: a name, and whether it agrees with what was written down.
 #![tactic(auto)]
 
-use libc::STDOUT_FILENO;
+use std::io;
+use std::io::Write;
 
-pub fn line(name: &[u8], agrees: bool) {
-    io::write_all(STDOUT_FILENO, name);
+pub fn line<W: Write>(out: &mut W, name: &[u8], agrees: bool) -> io::Result<()> {
+    out.write_all(name)?;
     if agrees {
-        io::write_all(STDOUT_FILENO, b" agrees\n");
+        out.write_all(b" agrees\n")
     } else {
-        io::write_all(STDOUT_FILENO, b" differs\n");
+        out.write_all(b" differs\n")
     }
 }
