@@ -3,7 +3,7 @@
  * Five calls over six buffers that the caller owns and lends. Every call answers, whatever it is lent: any lengths,
  * any contents, any numbers. A refused call writes nothing. No call keeps a pointer, allocates, prints or fails.
  *
- * Build the archive with `rt staticlib portal`, which proves it, and link target/staticlib/libportal.a. x86-64 only.
+ * Build the archive with `tools/archive`, which proves it, and link target/staticlib/libportal.a. x86-64 only.
  */
 #ifndef LAPISGABLE_H
 #define LAPISGABLE_H

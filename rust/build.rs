@@ -1,4 +1,4 @@
-//! Links the proved archive that `rt staticlib portal` leaves in the project's target folder.
+//! Links the proved archive that `tools/archive` leaves in the project's target folder.
 use std::path::Path;
 
 fn main() {
@@ -6,7 +6,7 @@ fn main() {
     let archive = folder.join("libportal.a");
     assert!(
         archive.exists(),
-        "no {}: run `rt staticlib portal` in the project's root first",
+        "no {}: run `tools/archive` in the project's root first",
         archive.display()
     );
     println!("cargo::rustc-link-search=native={}", folder.display());

@@ -1,6 +1,6 @@
 /* Two claims on one machine: opened, loaded, given turns one after the other, and reported.
  *
- *     rt staticlib portal
+ *     tools/archive
  *     cc -I include examples/c/claims.c target/staticlib/libportal.a -o target/claims && target/claims
  */
 #include <inttypes.h>

@@ -24,7 +24,7 @@
 //! ```
 //!
 //! Every call answers or is refused, and a refused call changes nothing. The work is done by a proved archive, which
-//! `rt staticlib portal` builds in the project's root and which this crate links; [`lent`] has its calls as they are.
+//! `tools/archive` builds in the project's root and which this crate links; [`lent`] has its calls as they are.
 pub mod lent;
 
 mod machine;
