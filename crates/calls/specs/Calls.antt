@@ -2,7 +2,7 @@
 -- A sound state is read into claims, the rules say what becomes of them, and they are written back; a refused call leaves every byte.
 use Rattle.std.specs.Prelude.{ℕ, ◌/◌, ◌%◌, ◌&&◌, List, [], ◌∷◌, ◌++◌, map, length, drop, leb, eqb}
 use Rattle.std.proofs.Math.Option.{Option, none, some}
-use Rattle.laws.specs.Choice.{if◌then◌else◌}
+use Rattle.std.specs.Prelude.{if◌then◌else◌}
 use Rattle.rules.specs.declared.Report.{Report}
 use Rattle.rules.specs.Calls.{Machine, Event, loads, asks, clears, Reply, number, placed, told, blank, message, tell, after, replies, entries, Share, may_open, opened, number_in}
 use Rattle.state.specs.State.{State, long, laid, claims_of}

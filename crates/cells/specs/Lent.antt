@@ -1,6 +1,6 @@
 -- A cell as its tag and its word: the low three bits of the tag are the value's tag, the next is the kind. Assumes nothing.
 use Rattle.std.specs.Prelude.{ℕ, ◌+◌, ◌-◌, ◌/◌, ◌%◌, ◌&&◌, List, get_or, leb, ltb, eqb}
-use Rattle.laws.specs.Choice.{if◌then◌else◌}
+use Rattle.std.specs.Prelude.{if◌then◌else◌}
 use Rattle.value.specs.declared.Value.{Value}
 use Rattle.value.specs.declared.coding.Decoded.{Decoded}
 use Rattle.value.specs.declared.coding.Decoded.TheVariants.{Good, Malformed}

@@ -1,6 +1,6 @@
 -- The tags and the words of a seat's cells after an effect. Assumes nothing.
 use Rattle.std.specs.Prelude.{ℕ, ◌-◌, List, set, ltb}
-use Rattle.laws.specs.Choice.{if◌then◌else◌}
+use Rattle.std.specs.Prelude.{if◌then◌else◌}
 use Rattle.value.specs.Coding.{word_of}
 use Rattle.rules.specs.declared.Kind.TheVariants.{Mcell}
 use Rattle.rules.specs.declared.Effect.{Effect}

@@ -12,7 +12,7 @@ use mir.Syntax.{w64}
 use mir.Val.{Fits, to_z, of_z}
 use mir.ValLaws.{of_z-to_z}
 use borrow.Author.Tests.{le-leb}
-use Rattle.laws.specs.Choice.{if◌then◌else◌}
+use Rattle.std.specs.Prelude.{if◌then◌else◌}
 use Rattle.laws.proofs.Absurd.{clash}
 use Rattle.laws.proofs.Lists.{rest-is}
 use Rattle.laws.proofs.Arms.{NoneOf, singles, past}

@@ -1,6 +1,6 @@
 -- The instruction at a place of the code, END where no whole one stands there, and how many bytes it has. Assumes nothing.
 use Rattle.std.specs.Prelude.{ℕ, ◌+◌, List, length, drop, leb}
-use Rattle.laws.specs.Choice.{if◌then◌else◌}
+use Rattle.std.specs.Prelude.{if◌then◌else◌}
 use Rattle.kinds.specs.declared.Instruction.{Instruction}
 use Rattle.kinds.specs.declared.Instruction.TheVariants as I
 use Rattle.kinds.specs.declared.Meaning.{Meaning}

@@ -1,6 +1,6 @@
 -- Demand 3, said of the calls: a history of calls on lent bytes, what of it counts for one seat, and that seat alone. Assumes nothing.
 use Rattle.std.specs.Prelude.{ℕ, true, ◌&&◌, not, ◌≡◌, List, [], ◌∷◌, ltb, eqb}
-use Rattle.laws.specs.Choice.{if◌then◌else◌}
+use Rattle.std.specs.Prelude.{if◌then◌else◌}
 use Rattle.laws.specs.Lists.{all}
 use Rattle.rules.specs.Claim.{Claim}
 use Rattle.rules.specs.Calls.{Event, picks, loads, Share, hear, number_in}

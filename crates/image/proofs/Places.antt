@@ -6,7 +6,7 @@ use mathlib.Core.List.{List}
 use lib.ListN.{length, get_or, take, drop}
 use lib.Dec.{leb, ltb}
 use borrow.Author.Tests.{leb-true, lt-ltb, le-ltb, le-leb, lt-leb}
-use Rattle.laws.specs.Choice.{if◌then◌else◌}
+use Rattle.std.specs.Prelude.{if◌then◌else◌}
 use Rattle.laws.proofs.Choice.{chosen}
 use Rattle.laws.proofs.Absurd.{clash}
 use Rattle.laws.proofs.Lists.{rest-is}

@@ -1,7 +1,7 @@
 -- Document 01, "Images": which images are good, and the place of a bad one. Assumes nothing.
 -- Each walk has fuel for one step more than the image has bytes, and each step passes a byte at least: it never runs out (proofs/Fuel.antt).
 use Rattle.std.specs.Prelude.{ℕ, zero, suc, ◌+◌, Bool, true, false, ◌&&◌, List, [], ◌∷◌, length, leb, ltb, eqb}
-use Rattle.laws.specs.Choice.{if◌then◌else◌}
+use Rattle.std.specs.Prelude.{if◌then◌else◌}
 use Rattle.kinds.specs.declared.Flow.{Flow}
 use Rattle.kinds.specs.Flows.{flow_of, closes, targets}
 use Rattle.image.specs.declared.records.Step.{Step}

@@ -1,6 +1,6 @@
 -- Document 01, "Images": one record of an image, at a place. Assumes nothing.
 use Rattle.std.specs.Prelude.{ℕ, zero, suc, ◌+◌, ◌-◌, List, [], ◌∷◌, length, get_or, take, drop, leb, ltb}
-use Rattle.laws.specs.Choice.{if◌then◌else◌}
+use Rattle.std.specs.Prelude.{if◌then◌else◌}
 use Rattle.value.specs.declared.Value.{Value}
 use Rattle.kinds.specs.declared.Meaning.{Meaning}
 use Rattle.kinds.specs.declared.Meaning.TheVariants.{Is, Broken}

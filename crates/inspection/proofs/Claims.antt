@@ -7,7 +7,7 @@ use mathlib.Core.List.{List, [], ◌∷◌}
 use lib.Dec.{leb, ltb, eqb}
 use lib.ListN.{length, get_or, get_elem?}
 use borrow.Author.Tests.{ltb-true, ltb-false}
-use Rattle.laws.specs.Choice.{if◌then◌else◌}
+use Rattle.std.specs.Prelude.{if◌then◌else◌}
 use Rattle.laws.proofs.Absurd.{below-zero}
 use Rattle.laws.proofs.Every.{all-get}
 use Rattle.laws.proofs.Lists.{get-some, get_none}

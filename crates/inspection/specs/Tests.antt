@@ -1,6 +1,6 @@
 -- Document 01: "A state is sound exactly if ..", as the code tests one seat's parts, in its order. Assumes nothing.
 use Rattle.std.specs.Prelude.{ℕ, Bool, true, false, ◌&&◌, List, [], ◌∷◌, length, get_or, take, drop, leb, ltb, eqb}
-use Rattle.laws.specs.Choice.{if◌then◌else◌}
+use Rattle.std.specs.Prelude.{if◌then◌else◌}
 use Rattle.laws.specs.Lists.{all}
 use Rattle.value.specs.declared.coding.Decoded.{Decoded}
 use Rattle.value.specs.declared.coding.Decoded.TheVariants.{Good, Malformed}

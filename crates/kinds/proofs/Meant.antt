@@ -5,7 +5,7 @@ use mathlib.Core.Bool.{Bool, true, false}
 use mathlib.Core.List.{List, [], ◌∷◌}
 use lib.Dec.{leb}
 use lib.Ieee.Bits.{is_true}
-use Rattle.laws.specs.Choice.{if◌then◌else◌}
+use Rattle.std.specs.Prelude.{if◌then◌else◌}
 use Rattle.laws.proofs.Arms.{NoneOf, ranged}
 use Rattle.kinds.specs.declared.Instruction.{Instruction}
 use Rattle.kinds.specs.declared.Meaning.TheVariants.{Is, Broken}

@@ -7,7 +7,7 @@ use mathlib.Core.List.{List, [], ◌∷◌}
 use lib.Dec.{T, leb, eqb}
 use lib.Ieee.{binary64, of_bits}
 use lib.Ieee.Scale.{finite}
-use Rattle.laws.specs.Choice.{if◌then◌else◌}
+use Rattle.std.specs.Prelude.{if◌then◌else◌}
 use Rattle.laws.proofs.Arms.{NoneOf, between, ranged, below_or_not}
 use Rattle.kinds.specs.declared.Instruction.{Instruction}
 use Rattle.kinds.specs.declared.Instruction.TheVariants as I

@@ -12,7 +12,7 @@ use lib.Ieee.Bits.{of_bits-fits, is_true}
 use mir.Syntax.{w64}
 use mir.Val.{to_z}
 use borrow.Author.Tests.{leb-true, eqb-true}
-use Rattle.laws.specs.Choice.{if◌then◌else◌}
+use Rattle.std.specs.Prelude.{if◌then◌else◌}
 use Rattle.laws.proofs.Choice.{both, first, second}
 use Rattle.value.specs.declared.Value.{Value}
 use Rattle.value.specs.declared.Value.TheVariants.{Integer}

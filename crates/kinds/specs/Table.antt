@@ -6,7 +6,7 @@ use Rattle.std.specs.Float.Ieee.{of_bits}
 use Rattle.std.specs.Float.Ieee.Scale.{finite}
 use Rattle.std.specs.Int.{w64}
 use Rattle.std.proofs.Common.{to_z}
-use Rattle.laws.specs.Choice.{if◌then◌else◌}
+use Rattle.std.specs.Prelude.{if◌then◌else◌}
 use Rattle.value.specs.declared.coding.Decoded.{Decoded}
 use Rattle.value.specs.declared.coding.Decoded.TheVariants.{Good, Malformed}
 use Rattle.value.specs.Coding.{decoded}

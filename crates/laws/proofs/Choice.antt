@@ -1,7 +1,7 @@
 -- A choice by a test, taken apart. Assumes nothing.
 use mathlib.Core.Path.{◌≡◌, refl}
 use mathlib.Core.Bool.{Bool, true, false, ◌&&◌}
-use Rattle.laws.specs.Choice.{if◌then◌else◌}
+use Rattle.std.specs.Prelude.{if◌then◌else◌}
 
 pub chosen : {A X : Type 0} (t : Bool) (a b : A) {d : A} → (if t then a else b) ≡ d → (t ≡ true → a ≡ d → X) → (t ≡ false → b ≡ d → X) → X
 chosen true a b e f g = f refl e

@@ -7,7 +7,7 @@ use mathlib.Core.List.{List, [], ◌∷◌}
 use lib.Dec.{leb, ltb, eqb}
 use lib.ListN.{length, get_elem?}
 use borrow.Author.Tests.{leb-true, eqb-true, ltb-true, ltb-false}
-use Rattle.laws.specs.Choice.{if◌then◌else◌}
+use Rattle.std.specs.Prelude.{if◌then◌else◌}
 use Rattle.laws.specs.Lists.{all, is_none}
 use Rattle.laws.proofs.Absurd.{clash}
 use Rattle.laws.proofs.Choice.{parted, second}

@@ -6,7 +6,7 @@ use mathlib.Core.Bool.{Bool, true, false, not}
 use mathlib.Core.List.{List, [], ◌∷◌, ◌++◌, map, append_assoc, reverse, reverse-cons}
 use lib.ListN.{length, set, length-set}
 use borrow.Author.Tests.{le-ltb}
-use Rattle.laws.specs.Choice.{if◌then◌else◌}
+use Rattle.std.specs.Prelude.{if◌then◌else◌}
 use Rattle.laws.proofs.Every.{All, all_cons, all_set}
 use Rattle.laws.proofs.Lists.{map-append}
 use Rattle.rules.specs.declared.Thread.{Thread}

@@ -8,7 +8,7 @@ use lib.Dec.{ltb}
 use lib.ListN.{length, get_or, take, drop, set, replicate, length-append, length-map, length-replicate, replicate-append-replicate, length-set, length-take, length-drop}
 use lib.Seq.{set-append_left, take_at, drop_at, set_out, set_at}
 use borrow.Author.Tests.{ltb-true, ltb-false}
-use Rattle.laws.specs.Choice.{if◌then◌else◌}
+use Rattle.std.specs.Prelude.{if◌then◌else◌}
 use Rattle.laws.proofs.Absurd.{below-zero}
 use Rattle.laws.proofs.Lists.{replicate-snoc, map-set, map-append, map-replicate, get-mapped}
 use Rattle.lent.specs.Runs.{filled_from}

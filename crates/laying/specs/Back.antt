@@ -1,6 +1,6 @@
 -- A claim read back from its seat's parts, and the test that the parts hold a claim and nothing else: read and written again, they are the same. Assumes nothing.
 use Rattle.std.specs.Prelude.{ℕ, zero, suc, ◌-◌, Bool, false, ◌&&◌, List, [], ◌∷◌, length, get_or, take, drop, eqb, leb}
-use Rattle.laws.specs.Choice.{if◌then◌else◌}
+use Rattle.std.specs.Prelude.{if◌then◌else◌}
 use Rattle.laws.specs.Lists.{all}
 use Rattle.image.specs.Reading.{read_image}
 use Rattle.rules.specs.declared.Kind.TheVariants.{Icell}

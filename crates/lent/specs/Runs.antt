@@ -1,6 +1,6 @@
 -- What is written to a lent slice, as a list. Assumes nothing.
 use Rattle.std.specs.Prelude.{ℕ, zero, suc, ◌+◌, Bool, List, ◌++◌, length, set, drop, replicate, eqb, leb}
-use Rattle.laws.specs.Choice.{if◌then◌else◌}
+use Rattle.std.specs.Prelude.{if◌then◌else◌}
 
 -- v at a, a + 1, .., n of them; past the end nothing is written
 unfoldable pub filled_from : ℕ → ℕ → ℕ → List ℕ → List ℕ

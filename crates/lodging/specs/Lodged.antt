@@ -1,6 +1,6 @@
 -- A seat's parts after a load and after a clearing, over lists of numbers: what the code does, whatever the lists hold. Assumes nothing.
 use Rattle.std.specs.Prelude.{ℕ, ◌+◌, ◌%◌, List, [], ◌∷◌, length, get_or, set, leb, eqb}
-use Rattle.laws.specs.Choice.{if◌then◌else◌}
+use Rattle.std.specs.Prelude.{if◌then◌else◌}
 use Rattle.value.specs.declared.Value.{Value}
 use Rattle.value.specs.declared.Value.TheVariants.{Nil}
 use Rattle.value.specs.Coding.{tag_of, word_of}

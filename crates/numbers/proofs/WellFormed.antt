@@ -10,7 +10,7 @@ use lib.Ieee.{binary64, of_bits, fits}
 use lib.Ieee.Scale.{finite}
 use lib.Ieee.Fits.{add-fits, sub-fits, mul-fits, div-fits}
 use lib.Ieee.Bits.{is_true}
-use Rattle.laws.specs.Choice.{if◌then◌else◌}
+use Rattle.std.specs.Prelude.{if◌then◌else◌}
 use Rattle.laws.proofs.Absurd.{clash}
 use Rattle.laws.proofs.Choice.{chosen, both}
 use Rattle.value.specs.Refusals.{no_such_cell, out_of_range, zero_divisor}

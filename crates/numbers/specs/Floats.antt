@@ -3,7 +3,7 @@ use Rattle.std.specs.Prelude.{Float}
 use Rattle.std.specs.Float.{binary64}
 use Rattle.std.specs.Float.Ieee.{of_bits, eq, div}
 use Rattle.std.specs.Float.Ieee.Scale.{finite}
-use Rattle.laws.specs.Choice.{if◌then◌else◌}
+use Rattle.std.specs.Prelude.{if◌then◌else◌}
 use Rattle.value.specs.Refusals.{out_of_range, zero_divisor}
 use Rattle.value.specs.declared.wanted.Real.{Real}
 use Rattle.value.specs.declared.wanted.Real.TheVariants.{Is, Refused}

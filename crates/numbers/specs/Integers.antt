@@ -1,7 +1,7 @@
 -- Document 01: "Integer answers are exact, DIV truncates toward zero; an answer out of range or a zero divisor is refused." Assumes nothing.
 use Rattle.std.specs.Prelude.{ℕ, ◌-◌, ◌^◌, Bool, ◌&&◌, ℤ, pos, negsuc, nat_abs, ◌+ℤ◌, eqb, leb}
 use Rattle.std.specs.Int.Signed.{quot_z, le_z}
-use Rattle.laws.specs.Choice.{if◌then◌else◌}
+use Rattle.std.specs.Prelude.{if◌then◌else◌}
 use Rattle.value.specs.Refusals.{no_such_cell, out_of_range, zero_divisor}
 use Rattle.value.specs.Range.{in_range}
 use Rattle.value.specs.declared.wanted.Whole.{Whole}

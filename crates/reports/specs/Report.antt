@@ -1,6 +1,6 @@
 -- One seat's report, off its parts of the lent buffers. Assumes nothing.
 use Rattle.std.specs.Prelude.{ℕ, ◌/◌, ◌%◌, List, get_or, eqb}
-use Rattle.laws.specs.Choice.{if◌then◌else◌}
+use Rattle.std.specs.Prelude.{if◌then◌else◌}
 use Rattle.rules.specs.declared.Slot.{Slot}
 use Rattle.rules.specs.declared.Slot.TheVariants.{Missing, Empty, Full}
 use Rattle.rules.specs.declared.Status.{Status}

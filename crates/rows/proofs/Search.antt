@@ -8,7 +8,7 @@ use mathlib.Core.List.{List, ◌∷◌}
 use lib.Dec.{eqb}
 use lib.ListN.{length, get_or, drop, drop_of_length-le}
 use lib.Seq.{drop-cons}
-use Rattle.laws.specs.Choice.{if◌then◌else◌}
+use Rattle.std.specs.Prelude.{if◌then◌else◌}
 use Rattle.threads.specs.declared.Found.TheVariants.{At, Ready}
 use Rattle.threads.specs.Heads.{ready_place}
 use Rattle.rows.specs.declared.Thread.{Thread}

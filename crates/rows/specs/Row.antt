@@ -1,6 +1,6 @@
 -- Document 01: "Each thread is a small record, and finding the thread to run is a search through the lent row of thread records." The row as structs: laid out from heads, four at a time, and searched. Assumes nothing.
 use Rattle.std.specs.Prelude.{ℕ, ◌+◌, ◌/◌, ◌%◌, List, [], ◌∷◌, eqb, get_or}
-use Rattle.laws.specs.Choice.{if◌then◌else◌}
+use Rattle.std.specs.Prelude.{if◌then◌else◌}
 use Rattle.threads.specs.declared.Found.{Found}
 use Rattle.threads.specs.declared.Found.TheVariants.{At, Ready}
 use Rattle.threads.specs.Heads.{place_in, ready_place}

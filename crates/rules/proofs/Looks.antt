@@ -9,7 +9,7 @@ use mathlib.Core.List.{List, ◌++◌}
 use lib.ListN.{get_elem?, set}
 use lib.Dec.{leb}
 use borrow.Author.Tests.{leb-true}
-use Rattle.laws.specs.Choice.{if◌then◌else◌}
+use Rattle.std.specs.Prelude.{if◌then◌else◌}
 use Rattle.laws.proofs.Choice.{either_way}
 use Rattle.laws.proofs.Elements.{at_set_other, at-append}
 use Rattle.rules.specs.declared.Slot.{Slot}

@@ -1,6 +1,6 @@
 -- Document 01, "Instructions": what one instruction does. Assumes nothing.
 use Rattle.std.specs.Prelude.{ℕ, ◌+◌, ℤ}
-use Rattle.laws.specs.Choice.{if◌then◌else◌}
+use Rattle.std.specs.Prelude.{if◌then◌else◌}
 use Rattle.value.specs.declared.Value.{Value}
 use Rattle.value.specs.declared.Value.TheVariants.{Integer, Float, Boolean, Nil, Location}
 use Rattle.value.specs.declared.wanted.Answer.{Answer}

@@ -1,6 +1,6 @@
 -- Demand 3, stated: a history of openings and messages, what of it counts for one seat, and the seat replayed from that alone. Assumes nothing.
 use Rattle.std.specs.Prelude.{ℕ, List, [], ◌∷◌, eqb}
-use Rattle.laws.specs.Choice.{if◌then◌else◌}
+use Rattle.std.specs.Prelude.{if◌then◌else◌}
 use Rattle.rules.specs.Claim.{Claim}
 use Rattle.rules.specs.Calls.{Machine, Event, picks, loads, asks, clears, Reply, number, placed, told, Message, Share, hear, tell, claim_at, opened, opening, may_open}
 

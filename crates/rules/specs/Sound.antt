@@ -1,6 +1,6 @@
 -- Document 01: "A state is sound exactly if ..", one test a clause, of claims. Assumes nothing.
 use Rattle.std.specs.Prelude.{ℕ, ◌+◌, ◌^◌, Bool, true, false, ◌&&◌, List, [], ◌∷◌, map, length, get_or, leb, ltb, eqb}
-use Rattle.laws.specs.Choice.{if◌then◌else◌}
+use Rattle.std.specs.Prelude.{if◌then◌else◌}
 use Rattle.laws.specs.Lists.{all, is_none}
 use Rattle.value.specs.Range.{well_formed}
 use Rattle.image.specs.declared.reader.Verdict.{Verdict}

@@ -1,6 +1,6 @@
 -- Document 01, "Instructions": the tests of a slot and of a cell, in the paper's order. Assumes nothing.
 use Rattle.std.specs.Prelude.{ℕ, Bool, ◌&&◌, leb, ℤ, pos, negsuc}
-use Rattle.laws.specs.Choice.{if◌then◌else◌}
+use Rattle.std.specs.Prelude.{if◌then◌else◌}
 use Rattle.value.specs.declared.Value.{Value}
 use Rattle.value.specs.declared.wanted.Answer.{Answer}
 use Rattle.value.specs.declared.wanted.Answer.TheVariants as Answer

@@ -1,6 +1,6 @@
 -- Document 01, "One schedule entry": what a seat does at a pick. Assumes nothing.
 use Rattle.std.specs.Prelude.{ℕ, Bool, true, false, not, ltb, eqb}
-use Rattle.laws.specs.Choice.{if◌then◌else◌}
+use Rattle.std.specs.Prelude.{if◌then◌else◌}
 use Rattle.image.specs.declared.reader.Verdict.{Verdict}
 use Rattle.image.specs.declared.reader.Verdict.TheVariants.{TooLong, BadAt, Good}
 use Rattle.image.specs.declared.records.Fetched.{Fetched}

@@ -5,7 +5,7 @@ use mathlib.Core.Path.{◌≡◌, refl}
 use mathlib.Core.Bool.{Bool, true, false, not}
 use mathlib.Core.List.{List, [], ◌∷◌}
 use lib.ListN.{length, get_or, length-append, length-take, length-drop, length-reverse, length-map}
-use Rattle.laws.specs.Choice.{if◌then◌else◌}
+use Rattle.std.specs.Prelude.{if◌then◌else◌}
 use Rattle.laws.proofs.Absurd.{below-zero}
 use Rattle.laws.proofs.Every.{All, all_nil, all_cons, all_append, all_take, all_drop, all_map, all-reverse, all-also}
 use Rattle.rules.specs.Claim.{Live, is_ready, is_on, keep, seek, nobody, without, wake, readied}

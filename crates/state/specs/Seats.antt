@@ -1,6 +1,6 @@
 -- Where a seat's parts lie in the lent state. Assumes nothing.
 use Rattle.std.specs.Prelude.{ℕ, zero, suc, ◌+◌, ◌*◌, ◌-◌, ◌≤◌, ◌≡◌, List, ◌++◌, get_or, take, drop, ltb, eqb}
-use Rattle.laws.specs.Choice.{if◌then◌else◌}
+use Rattle.std.specs.Prelude.{if◌then◌else◌}
 use Rattle.laying.specs.Laid.{Parts}
 use Rattle.state.specs.declared.seats.Region.{Region}
 use Rattle.state.specs.declared.seats.Region.TheVariants.{At, Nowhere}

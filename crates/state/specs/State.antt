@@ -1,7 +1,7 @@
 -- The lent state: how the claims of a machine lie in it, and how they are read back. Assumes nothing.
 use Rattle.std.specs.Prelude.{ℕ, zero, suc, ◌+◌, ◌*◌, ◌-◌, ◌≤◌, ◌≡◌, Bool, true, false, ◌&&◌, not, List, [], ◌∷◌, ◌++◌, length, get_or, take, drop, replicate, leb, eqb}
 use Rattle.std.proofs.Math.Option.{Option, none, some}
-use Rattle.laws.specs.Choice.{if◌then◌else◌}
+use Rattle.std.specs.Prelude.{if◌then◌else◌}
 use Rattle.laws.specs.Lists.{all}
 use Rattle.rules.specs.Claim.{Claim}
 use Rattle.rules.specs.Calls.{Machine, fair_share}

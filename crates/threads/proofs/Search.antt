@@ -8,7 +8,7 @@ use lib.Dec.{eqb}
 use lib.ListN.{length, get_or, drop, drop_of_length-le}
 use lib.Seq.{drop-cons}
 use borrow.Author.Tests.{eq-eqb, ne_eqb}
-use Rattle.laws.specs.Choice.{if◌then◌else◌}
+use Rattle.std.specs.Prelude.{if◌then◌else◌}
 use Rattle.threads.specs.declared.Found.TheVariants.{At, Ready}
 use Rattle.threads.specs.Heads.{place_in, ready_place}
 use Rattle.threads.specs.Row.{found_from}

@@ -1,6 +1,6 @@
 -- A thread record: a head of four fields of sixteen bits, place, position, frame and accumulator's tag from the low end, and the accumulator's word. Assumes nothing.
 use Rattle.std.specs.Prelude.{ℕ, ◌+◌, ◌*◌, ◌/◌, ◌%◌, ltb}
-use Rattle.laws.specs.Choice.{if◌then◌else◌}
+use Rattle.std.specs.Prelude.{if◌then◌else◌}
 use Rattle.value.specs.declared.Value.{Value}
 use Rattle.value.specs.declared.Value.TheVariants.{Nil}
 use Rattle.value.specs.declared.coding.Decoded.{Decoded}

@@ -1,6 +1,6 @@
 -- One pick on one seat, over lists of numbers: what the code does, whatever the lists hold. Assumes nothing.
 use Rattle.std.specs.Prelude.{ℕ, ◌%◌, List, get_or, take, eqb}
-use Rattle.laws.specs.Choice.{if◌then◌else◌}
+use Rattle.std.specs.Prelude.{if◌then◌else◌}
 use Rattle.image.specs.declared.records.Fetched.{Fetched}
 use Rattle.image.specs.declared.records.Fetched.TheVariants as Fetched
 use Rattle.image.specs.Records.{fetched_at}

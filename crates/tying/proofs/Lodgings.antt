@@ -8,7 +8,7 @@ use mathlib.Core.List.{List, [], ◌∷◌, ◌++◌, map, append_assoc, append-
 use lib.Dec.{leb, ltb, eqb}
 use lib.ListN.{length, get_or, set, replicate, length-append, length-map, length-replicate}
 use borrow.Author.Tests.{eqb-true, leb-true, le-leb}
-use Rattle.laws.specs.Choice.{if◌then◌else◌}
+use Rattle.std.specs.Prelude.{if◌then◌else◌}
 use Rattle.laws.specs.Lists.{all, is_none}
 use Rattle.laws.proofs.Choice.{parted}
 use Rattle.value.specs.declared.Value.{Value}

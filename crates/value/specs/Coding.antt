@@ -5,7 +5,7 @@ use Rattle.std.specs.Float.Ieee.{of_bits, to_bits}
 use Rattle.std.specs.Float.Ieee.Scale.{finite}
 use Rattle.std.specs.Int.{w64}
 use mir.Val.{to_z, of_z, bool_byte}
-use Rattle.laws.specs.Choice.{if◌then◌else◌}
+use Rattle.std.specs.Prelude.{if◌then◌else◌}
 use Rattle.value.specs.declared.Value.{Value}
 use Rattle.value.specs.declared.Value.TheVariants.{Integer, Float, Boolean, Nil, Location}
 use Rattle.value.specs.declared.coding.Decoded.{Decoded}

@@ -11,8 +11,8 @@ loop-left-preserved c =
     let s = c.loop-left.invariant in
     let h = c.loop-left-test.true in
     elim c.if-row-i-eq1.branch [
-        then-row-i-eq1+else-ready-pick w ↦ rw w.ready-is (search-more s h w.if-row-i-eq1.true w.if-ready-pick.false)
-        | else-row-i-eq1 w ↦ rw w.ready-is (search-past s h w.if-row-i-eq1.false)
+      | then-row-i-eq1+else-ready-pick w ↦ rw w.ready-is (search-more s h w.if-row-i-eq1.true w.if-ready-pick.false)
+      | else-row-i-eq1 w ↦ rw w.ready-is (search-past s h w.if-row-i-eq1.false)
     ]
 
 pub returns : goal.returns

@@ -16,8 +16,8 @@ pub loop-i-preserved : goal.loop-i-preserved
 loop-i-preserved c =
     let s = c.loop-i.invariant in
     elim c.if-heads-i-eq1.branch [
-        then-heads-i-eq1+else-ready-pick w ↦ rw w.ready-is (search-more s c.loop-i-test.true w.if-heads-i-eq1.true w.if-ready-pick.false)
-        | else-heads-i-eq1 w ↦ rw w.ready-is (search-past s c.loop-i-test.true w.if-heads-i-eq1.false)
+      | then-heads-i-eq1+else-ready-pick w ↦ rw w.ready-is (search-more s c.loop-i-test.true w.if-heads-i-eq1.true w.if-ready-pick.false)
+      | else-heads-i-eq1 w ↦ rw w.ready-is (search-past s c.loop-i-test.true w.if-heads-i-eq1.false)
     ]
 
 pub returns : goal.returns

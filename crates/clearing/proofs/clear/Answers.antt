@@ -1,0 +1,15 @@
+-- `clearing::clear` meets its contract: an unsound state is refused, and on a sound one it is the seat's clearing. Assumes nothing.
+use borrow.Author.Rules.{rules}
+use Rattle.laws.proofs.Answers.{failed, passed}
+use Rattle.state.proofs.Stands.{sound-stands}
+use Rattle.calls.proofs.Gates.{clear-refused, clear-goes}
+use Rattle.clearing.proofs.clear.Goals as goal
+
+pub returns-then-not-is_sound : goal.returns-then-not-is_sound
+returns-then-not-is_sound c = clear-refused _ _ (failed c.is_sound.ensures c.if-not-is_sound.true)
+
+pub clear_in-requires : goal.clear_in-requires
+clear_in-requires c = sound-stands _ (passed c.is_sound.ensures c.if-not-is_sound.false)
+
+pub returns : goal.returns
+returns c = clear-goes _ _ (passed c.is_sound.ensures c.if-not-is_sound.false) c.clear_in.ensures
