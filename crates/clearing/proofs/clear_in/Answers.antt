@@ -2,55 +2,48 @@
 use native.Mathlib.Omega.{arith}
 use mathlib.Core.Path.{sym, ◌∙◌}
 use borrow.Author.Rules.{rules}
-use Rattle.state.specs.State.{State, state}
-use Rattle.state.proofs.Regions.{RegionAt, region-at, region-nowhere}
+use Rattle.state.proofs.Regions.{region-at, region-nowhere}
 use Rattle.calls.proofs.Answers.{clears-nothing, clears-there}
 use Rattle.clearing.proofs.clear_in.Goals as goal
 
-abbrev lent : goal.Start → State
-lent c = state c.args.book.now c.args.tags.now c.args.words.now c.args.heads.now c.args.accs.now c.args.images.now
-
-here : (c : goal.In-At) → RegionAt (lent c.before) c.args.seat c.in-At.a c.in-At.e
-here c = region-at c.requires (sym c.region_of.ensures ∙ c.in-At.is)
-
 pub slice_bounds-clear_seat-end : goal.slice_bounds-clear_seat-end
-slice_bounds-clear_seat-end c = let z = here c in omega arith
+slice_bounds-clear_seat-end c = let z = region-at c.requires (sym c.region_of.ensures ∙ c.in-At.is) in omega arith
 
 pub offset_bounds-tags-a : goal.offset_bounds-tags-a
-offset_bounds-tags-a c = let z = here c.before in omega arith
+offset_bounds-tags-a c = let z = region-at c.requires (sym c.region_of.ensures ∙ c.in-At.is) in omega arith
 
 pub slice_bounds-clear_seat-count-in-At : goal.slice_bounds-clear_seat-count-in-At
-slice_bounds-clear_seat-count-in-At c = let z = here c.before in omega arith
+slice_bounds-clear_seat-count-in-At c = let z = region-at c.requires (sym c.region_of.ensures ∙ c.in-At.is) in omega arith
 
 pub slice_bounds-clear_seat-start-in-At : goal.slice_bounds-clear_seat-start-in-At
-slice_bounds-clear_seat-start-in-At c = let z = here c.before in omega arith
+slice_bounds-clear_seat-start-in-At c = let z = region-at c.requires (sym c.region_of.ensures ∙ c.in-At.is) in omega arith
 
 pub slice_bounds-clear_seat-end-in-At : goal.slice_bounds-clear_seat-end-in-At
-slice_bounds-clear_seat-end-in-At c = let z = here c.before in omega arith
+slice_bounds-clear_seat-end-in-At c = let z = region-at c.requires (sym c.region_of.ensures ∙ c.in-At.is) in omega arith
 
 pub offset_bounds-words-a : goal.offset_bounds-words-a
-offset_bounds-words-a c = let z = here c.before in omega arith
+offset_bounds-words-a c = let z = region-at c.requires (sym c.region_of.ensures ∙ c.in-At.is) in omega arith
 
 pub slice_bounds-clear_seat-count-in-At-2 : goal.slice_bounds-clear_seat-count-in-At-2
-slice_bounds-clear_seat-count-in-At-2 c = let z = here c.before in omega arith
+slice_bounds-clear_seat-count-in-At-2 c = let z = region-at c.requires (sym c.region_of.ensures ∙ c.in-At.is) in omega arith
 
 pub slice_bounds-clear_seat-start-in-At-2 : goal.slice_bounds-clear_seat-start-in-At-2
-slice_bounds-clear_seat-start-in-At-2 c = let z = here c.before in omega arith
+slice_bounds-clear_seat-start-in-At-2 c = let z = region-at c.requires (sym c.region_of.ensures ∙ c.in-At.is) in omega arith
 
 pub slice_bounds-clear_seat-end-in-At-2 : goal.slice_bounds-clear_seat-end-in-At-2
-slice_bounds-clear_seat-end-in-At-2 c = let z = here c.before in omega arith
+slice_bounds-clear_seat-end-in-At-2 c = let z = region-at c.requires (sym c.region_of.ensures ∙ c.in-At.is) in omega arith
 
 pub slice_bounds-clear_seat-end-in-At-3 : goal.slice_bounds-clear_seat-end-in-At-3
-slice_bounds-clear_seat-end-in-At-3 c = let z = here c.before in omega arith
+slice_bounds-clear_seat-end-in-At-3 c = let z = region-at c.requires (sym c.region_of.ensures ∙ c.in-At.is) in omega arith
 
 pub slice_bounds-clear_seat-end-in-At-4 : goal.slice_bounds-clear_seat-end-in-At-4
-slice_bounds-clear_seat-end-in-At-4 c = let z = here c.before in omega arith
+slice_bounds-clear_seat-end-in-At-4 c = let z = region-at c.requires (sym c.region_of.ensures ∙ c.in-At.is) in omega arith
 
 pub slice_bounds-clear_seat-end-in-At-5 : goal.slice_bounds-clear_seat-end-in-At-5
-slice_bounds-clear_seat-end-in-At-5 c = let z = here c.before in omega arith
+slice_bounds-clear_seat-end-in-At-5 c = let z = region-at c.requires (sym c.region_of.ensures ∙ c.in-At.is) in omega arith
 
 pub returns-in-Nowhere : goal.returns-in-Nowhere
 returns-in-Nowhere c = clears-nothing c.requires (region-nowhere c.requires (sym c.region_of.ensures ∙ c.in-Nowhere.is))
 
 pub returns-in-At : goal.returns-in-At
-returns-in-At c = clears-there c.requires (here c.before) c.clear_seat.ensures
+returns-in-At c = clears-there c.requires (region-at c.requires (sym c.region_of.ensures ∙ c.in-At.is)) c.clear_seat.ensures

@@ -2,49 +2,42 @@
 use native.Mathlib.Omega.{arith}
 use mathlib.Core.Path.{sym, ◌∙◌}
 use borrow.Author.Rules.{rules}
-use Rattle.state.specs.State.{State, state}
-use Rattle.state.proofs.Regions.{RegionAt, region-at, region-nowhere}
+use Rattle.state.proofs.Regions.{region-at, region-nowhere}
 use Rattle.calls.proofs.Answers.{shows_nothing, shows-there}
 use Rattle.reporting.proofs.report_in.Goals as goal
 
-abbrev lent : goal.Start → State
-lent c = state c.args.book.now c.args.tags.now c.args.words.now c.args.heads.now c.args.accs.now c.args.images.now
-
-here : (c : goal.In-At) → RegionAt (lent c.before) c.args.seat c.in-At.a c.in-At.e
-here c = region-at c.requires (sym c.region_of.ensures ∙ c.in-At.is)
-
 pub slice_bounds-report_seat-end : goal.slice_bounds-report_seat-end
-slice_bounds-report_seat-end c = let z = here c in omega arith
+slice_bounds-report_seat-end c = let z = region-at c.requires (sym c.region_of.ensures ∙ c.in-At.is) in omega arith
 
 pub offset_bounds-tags-a : goal.offset_bounds-tags-a
-offset_bounds-tags-a c = let z = here c.before in omega arith
+offset_bounds-tags-a c = let z = region-at c.requires (sym c.region_of.ensures ∙ c.in-At.is) in omega arith
 
 pub slice_bounds-report_seat-count-in-At : goal.slice_bounds-report_seat-count-in-At
-slice_bounds-report_seat-count-in-At c = let z = here c.before in omega arith
+slice_bounds-report_seat-count-in-At c = let z = region-at c.requires (sym c.region_of.ensures ∙ c.in-At.is) in omega arith
 
 pub slice_bounds-report_seat-start-in-At : goal.slice_bounds-report_seat-start-in-At
-slice_bounds-report_seat-start-in-At c = let z = here c.before in omega arith
+slice_bounds-report_seat-start-in-At c = let z = region-at c.requires (sym c.region_of.ensures ∙ c.in-At.is) in omega arith
 
 pub slice_bounds-report_seat-end-in-At : goal.slice_bounds-report_seat-end-in-At
-slice_bounds-report_seat-end-in-At c = let z = here c.before in omega arith
+slice_bounds-report_seat-end-in-At c = let z = region-at c.requires (sym c.region_of.ensures ∙ c.in-At.is) in omega arith
 
 pub offset_bounds-words-a : goal.offset_bounds-words-a
-offset_bounds-words-a c = let z = here c.before in omega arith
+offset_bounds-words-a c = let z = region-at c.requires (sym c.region_of.ensures ∙ c.in-At.is) in omega arith
 
 pub slice_bounds-report_seat-count-in-At-2 : goal.slice_bounds-report_seat-count-in-At-2
-slice_bounds-report_seat-count-in-At-2 c = let z = here c.before in omega arith
+slice_bounds-report_seat-count-in-At-2 c = let z = region-at c.requires (sym c.region_of.ensures ∙ c.in-At.is) in omega arith
 
 pub slice_bounds-report_seat-start-in-At-2 : goal.slice_bounds-report_seat-start-in-At-2
-slice_bounds-report_seat-start-in-At-2 c = let z = here c.before in omega arith
+slice_bounds-report_seat-start-in-At-2 c = let z = region-at c.requires (sym c.region_of.ensures ∙ c.in-At.is) in omega arith
 
 pub slice_bounds-report_seat-end-in-At-2 : goal.slice_bounds-report_seat-end-in-At-2
-slice_bounds-report_seat-end-in-At-2 c = let z = here c.before in omega arith
+slice_bounds-report_seat-end-in-At-2 c = let z = region-at c.requires (sym c.region_of.ensures ∙ c.in-At.is) in omega arith
 
 pub slice_bounds-report_seat-end-in-At-3 : goal.slice_bounds-report_seat-end-in-At-3
-slice_bounds-report_seat-end-in-At-3 c = let z = here c.before in omega arith
+slice_bounds-report_seat-end-in-At-3 c = let z = region-at c.requires (sym c.region_of.ensures ∙ c.in-At.is) in omega arith
 
 pub returns-in-Nowhere : goal.returns-in-Nowhere
 returns-in-Nowhere c = shows_nothing c.requires (region-nowhere c.requires (sym c.region_of.ensures ∙ c.in-Nowhere.is)) c.blank_report.ensures
 
 pub returns-in-At : goal.returns-in-At
-returns-in-At c = shows-there c.requires (here c.before) c.report_seat.ensures
+returns-in-At c = shows-there c.requires (region-at c.requires (sym c.region_of.ensures ∙ c.in-At.is)) c.report_seat.ensures

@@ -20,7 +20,7 @@ pub returns-then-answers-m : goal.returns-then-answers-m
 returns-then-answers-m c = run-cramped _ _ _ c.is_sound.ensures (c.if-not-is_sound.false) c.if-n-ne0.false c.if-n-gt65534.false c.if-answers-m.true
 
 pub run_all-requires : goal.run_all-requires
-run_all-requires c = (sound-stands _ (sym c.is_sound.ensures ∙ c.if-not-is_sound.false), (omega arith, omega arith))
+run_all-requires c = record { stands = sound-stands _ (sym c.is_sound.ensures ∙ c.if-not-is_sound.false); schedule_len = (omega arith, omega arith) }
 
 pub returns : goal.returns
 returns c = run-goes _ _ _ c.is_sound.ensures (c.if-not-is_sound.false) c.if-n-ne0.false c.if-n-gt65534.false c.if-answers-m.false c.run_all.ensures
