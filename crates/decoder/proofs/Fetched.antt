@@ -18,7 +18,6 @@ use Rattle.kinds.specs.Bytes.{byte_in, word_in}
 use Rattle.kinds.specs.Table.{instructions, instruction_kind, float_means, truth_means, frame_means, switch_means}
 use Rattle.kinds.proofs.Rows.{after-instructions}
 use Rattle.image.specs.declared.records.Step.{Step}
-use Rattle.image.specs.declared.records.Step.TheVariants as Step
 use Rattle.image.specs.declared.records.Fetched.TheVariants as Fetched
 use Rattle.image.specs.Records.{step_at, fetched_by, fetched_at}
 use Rattle.image.proofs.Places.{instruction-there}

@@ -8,7 +8,6 @@ use Rattle.kinds.specs.declared.Meaning.TheVariants.{Is, Broken}
 use Rattle.kinds.specs.Bytes.{byte_in, word_in}
 use Rattle.kinds.specs.Table.{Kind, instruction_kind}
 use Rattle.image.specs.declared.records.Step.{Step}
-use Rattle.image.specs.declared.records.Step.TheVariants as Step
 use Rattle.image.specs.Records.{step_at}
 
 -- the instruction of a step, END where there is none

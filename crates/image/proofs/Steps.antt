@@ -12,7 +12,6 @@ use Rattle.kinds.specs.Flows.{flow_of, targets}
 use Rattle.image.specs.declared.records.Step.{Step}
 use Rattle.image.specs.declared.records.Step.TheVariants.{Ended, Bad, Next}
 use Rattle.image.specs.declared.records.Head.{Head}
-use Rattle.image.specs.declared.records.Head.TheVariants as Head
 use Rattle.image.specs.declared.starts.Fault.{Fault}
 use Rattle.image.specs.declared.starts.Fault.TheVariants.{At, Nowhere}
 use Rattle.image.specs.declared.reader.Verdict.TheVariants.{TooLong, BadAt, Good}

@@ -1,7 +1,6 @@
 -- A row of marks, 1 at each place where an instruction starts: how the reader finds bad targets. Nothing else leans on it. Assumes nothing.
 use Rattle.std.specs.Prelude.{ℕ, zero, suc, ◌+◌, Bool, true, ◌&&◌, List, [], ◌∷◌, length, get_or, set, replicate, eqb}
 use Rattle.image.specs.declared.records.Step.{Step}
-use Rattle.image.specs.declared.records.Step.TheVariants as Step
 use Rattle.image.specs.Records.{step_at}
 
 unfoldable pub marks_from : ℕ → List ℕ → ℕ → List ℕ → List ℕ

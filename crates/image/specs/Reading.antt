@@ -5,9 +5,7 @@ use Rattle.std.specs.Prelude.{if◌then◌else◌}
 use Rattle.kinds.specs.declared.Flow.{Flow}
 use Rattle.kinds.specs.Flows.{flow_of, closes, targets}
 use Rattle.image.specs.declared.records.Step.{Step}
-use Rattle.image.specs.declared.records.Step.TheVariants as Step
 use Rattle.image.specs.declared.records.Head.{Head}
-use Rattle.image.specs.declared.records.Head.TheVariants as Head
 use Rattle.image.specs.declared.starts.Fault.{Fault}
 use Rattle.image.specs.declared.starts.Fault.TheVariants.{At, Nowhere}
 use Rattle.image.specs.declared.reader.Verdict.{Verdict}

@@ -11,13 +11,9 @@ use Rattle.kinds.specs.declared.Flow.TheVariants.{On}
 use Rattle.kinds.specs.Flows.{flow_of}
 use Rattle.kinds.specs.Table.{Kind, instruction_kind, record_kind}
 use Rattle.image.specs.declared.records.Step.{Step}
-use Rattle.image.specs.declared.records.Step.TheVariants as Step
 use Rattle.image.specs.declared.records.Stride.{Stride}
-use Rattle.image.specs.declared.records.Stride.TheVariants as Stride
 use Rattle.image.specs.declared.records.Head.{Head}
-use Rattle.image.specs.declared.records.Head.TheVariants as Head
 use Rattle.image.specs.declared.records.Fetched.{Fetched}
-use Rattle.image.specs.declared.records.Fetched.TheVariants as Fetched
 
 -- the place behind a record of this kind at `at`, and the body between
 abbrev pub behind : {A : Type 0} → Kind A → ℕ → ℕ

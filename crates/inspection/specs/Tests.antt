@@ -6,7 +6,6 @@ use Rattle.value.specs.declared.coding.Decoded.{Decoded}
 use Rattle.value.specs.declared.coding.Decoded.TheVariants.{Good, Malformed}
 use Rattle.value.specs.Range.{well_formed}
 use Rattle.image.specs.declared.reader.Verdict.{Verdict}
-use Rattle.image.specs.declared.reader.Verdict.TheVariants as Verdict
 use Rattle.image.specs.Reading as Reading
 use Rattle.image.specs.Reading.{read_image}
 use Rattle.rules.specs.Claim.{Place, ready, on, Live}

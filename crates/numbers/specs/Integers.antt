@@ -7,7 +7,6 @@ use Rattle.value.specs.Range.{in_range}
 use Rattle.value.specs.declared.wanted.Whole.{Whole}
 use Rattle.value.specs.declared.wanted.Whole.TheVariants.{Is, Refused}
 use Rattle.value.specs.declared.wanted.Place.{Place}
-use Rattle.value.specs.declared.wanted.Place.TheVariants as Place
 
 -- "an answer out of range .. is refused"
 unfoldable pub exactly : ℤ → Whole

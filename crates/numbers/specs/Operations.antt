@@ -9,13 +9,9 @@ use Rattle.std.specs.Prelude.{if◌then◌else◌}
 use Rattle.value.specs.Refusals.{wrong_kind}
 use Rattle.value.specs.Wanted.{as_integer, as_float, as_boolean}
 use Rattle.value.specs.declared.Value.{Value}
-use Rattle.value.specs.declared.Value.TheVariants as Value
 use Rattle.value.specs.declared.wanted.Whole.{Whole}
-use Rattle.value.specs.declared.wanted.Whole.TheVariants as Whole
 use Rattle.value.specs.declared.wanted.Real.{Real}
-use Rattle.value.specs.declared.wanted.Real.TheVariants as Real
 use Rattle.value.specs.declared.wanted.Truth.{Truth}
-use Rattle.value.specs.declared.wanted.Truth.TheVariants as Truth
 use Rattle.value.specs.declared.wanted.Answer.{Answer}
 use Rattle.value.specs.declared.wanted.Answer.TheVariants.{Is, Refused}
 use Rattle.numbers.specs.declared.Operation.{Operation}

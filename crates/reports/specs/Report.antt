@@ -6,11 +6,9 @@ use Rattle.rules.specs.declared.Slot.TheVariants.{Missing, Empty, Full}
 use Rattle.rules.specs.declared.Status.{Status}
 use Rattle.rules.specs.declared.Status.TheVariants.{Vacant, Running, Finished, Deadlocked, Refused}
 use Rattle.rules.specs.declared.Outcome.{Outcome}
-use Rattle.rules.specs.declared.Outcome.TheVariants as Outcome
 use Rattle.rules.specs.declared.Report.{Report}
 use Rattle.cells.specs.Lent.{look_on}
 use Rattle.threads.specs.declared.Found.{Found}
-use Rattle.threads.specs.declared.Found.TheVariants as Found
 use Rattle.threads.specs.Row.{found_from}
 use Rattle.book.specs.declared.Tally.{Tally}
 use Rattle.book.specs.Book.{tally_in}

@@ -9,7 +9,6 @@ use Rattle.laws.proofs.Absurd.{clash}
 use Rattle.value.specs.declared.Value.{Value}
 use Rattle.rules.specs.declared.Kind.TheVariants.{Icell}
 use Rattle.rules.specs.declared.Slot.{Slot}
-use Rattle.rules.specs.declared.Slot.TheVariants as Slot
 use Rattle.rules.specs.declared.Effect.{Effect}
 use Rattle.rules.specs.Claim.{Claim, Cell, Live, look, put, stepped, perform}
 use Rattle.rules.specs.Turn.{Turned, ran}

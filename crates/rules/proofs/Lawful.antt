@@ -10,11 +10,9 @@ use Rattle.value.specs.declared.Value.{Value}
 use Rattle.kinds.specs.declared.Instruction.{Instruction}
 use Rattle.kinds.specs.declared.Instruction.TheVariants as I
 use Rattle.image.specs.declared.records.Fetched.{Fetched}
-use Rattle.image.specs.declared.records.Fetched.TheVariants as Fetched
 use Rattle.rules.specs.declared.Kind.{Kind}
 use Rattle.rules.specs.declared.Kind.TheVariants.{Icell, Mcell}
 use Rattle.rules.specs.declared.Slot.{Slot}
-use Rattle.rules.specs.declared.Slot.TheVariants as Slot
 use Rattle.rules.specs.declared.Held.{Held}
 use Rattle.rules.specs.declared.Thread.{Thread}
 use Rattle.rules.specs.declared.Effect.{Effect}

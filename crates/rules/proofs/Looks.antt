@@ -13,7 +13,6 @@ use Rattle.std.specs.Prelude.{if◌then◌else◌}
 use Rattle.laws.proofs.Choice.{either_way}
 use Rattle.laws.proofs.Elements.{at_set_other, at-append}
 use Rattle.rules.specs.declared.Slot.{Slot}
-use Rattle.rules.specs.declared.Slot.TheVariants as Slot
 use Rattle.rules.specs.Claim.{Claim, Cell, Live, found, look, put, stepped}
 
 module _ (c : Claim) where

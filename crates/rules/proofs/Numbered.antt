@@ -1,5 +1,5 @@
 -- A test of a slot, of the cell pointed to or of the arithmetic that fails does so by a number 1 to 9. Assumes nothing.
-use Prim.Native.Nat.{ℕ, ◌+◌}
+use Prim.Native.Nat.{ℕ}
 use mathlib.Core.Bool.{Bool, true, ◌&&◌}
 use mathlib.Core.Path.{◌≡◌, refl}
 use lib.Dec.{leb, eqb}
@@ -13,9 +13,7 @@ use Rattle.value.specs.Wanted.{as_integer, as_float, as_boolean, as_location}
 use Rattle.value.specs.declared.Value.{Value}
 use Rattle.value.specs.declared.Value.TheVariants.{Integer, Float, Boolean, Nil, Location}
 use Rattle.value.specs.declared.wanted.Answer.{Answer}
-use Rattle.value.specs.declared.wanted.Answer.TheVariants as Answer
 use Rattle.value.specs.declared.wanted.Whole.{Whole}
-use Rattle.value.specs.declared.wanted.Whole.TheVariants as Whole
 use Rattle.value.specs.declared.wanted.Real.{Real}
 use Rattle.value.specs.declared.wanted.Place.{Place}
 use Rattle.numbers.specs.Integers as Integers
@@ -27,7 +25,6 @@ use Rattle.numbers.specs.declared.Operation.TheVariants.{Add, Sub, Mul, Div, Les
 use Rattle.rules.specs.declared.Kind.{Kind}
 use Rattle.rules.specs.declared.Kind.TheVariants.{Icell, Mcell}
 use Rattle.rules.specs.declared.Slot.{Slot}
-use Rattle.rules.specs.declared.Slot.TheVariants as Slot
 use Rattle.rules.specs.declared.Held.{Held}
 use Rattle.rules.specs.declared.Held.TheVariants.{Holds, Lacks, Refused}
 use Rattle.rules.specs.declared.Size.{Size}

@@ -11,7 +11,6 @@ use Rattle.image.specs.Reading.{read_image, number_of, place_of}
 use Rattle.rules.specs.declared.Kind.TheVariants.{Icell}
 use Rattle.rules.specs.declared.Status.TheVariants.{Vacant}
 use Rattle.rules.specs.declared.Outcome.{Outcome}
-use Rattle.rules.specs.declared.Outcome.TheVariants as Outcome
 use Rattle.rules.specs.declared.Report.{Report}
 use Rattle.rules.specs.Decide.{thread}
 use Rattle.rules.specs.Claim.{Seat, Claim, Cell, empty, full, readied, thread_at, status_of}

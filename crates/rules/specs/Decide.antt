@@ -4,7 +4,6 @@ use Rattle.std.specs.Prelude.{if◌then◌else◌}
 use Rattle.value.specs.declared.Value.{Value}
 use Rattle.value.specs.declared.Value.TheVariants.{Integer, Float, Boolean, Nil, Location}
 use Rattle.value.specs.declared.wanted.Answer.{Answer}
-use Rattle.value.specs.declared.wanted.Answer.TheVariants as Answer
 use Rattle.value.specs.declared.wanted.Place.{Place}
 use Rattle.value.specs.Refusals.{wrong_kind, cell_full}
 use Rattle.numbers.specs.declared.Operation.{Operation}

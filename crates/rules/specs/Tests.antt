@@ -3,13 +3,9 @@ use Rattle.std.specs.Prelude.{ℕ, Bool, ◌&&◌, leb, ℤ, pos, negsuc}
 use Rattle.std.specs.Prelude.{if◌then◌else◌}
 use Rattle.value.specs.declared.Value.{Value}
 use Rattle.value.specs.declared.wanted.Answer.{Answer}
-use Rattle.value.specs.declared.wanted.Answer.TheVariants as Answer
 use Rattle.value.specs.declared.wanted.Whole.{Whole}
-use Rattle.value.specs.declared.wanted.Whole.TheVariants as Whole
 use Rattle.value.specs.declared.wanted.Truth.{Truth}
-use Rattle.value.specs.declared.wanted.Truth.TheVariants as Truth
 use Rattle.value.specs.declared.wanted.Place.{Place}
-use Rattle.value.specs.declared.wanted.Place.TheVariants as Place
 use Rattle.value.specs.Refusals.{no_such_cell, wrong_cell, slot_empty, bad_size}
 use Rattle.value.specs.Wanted.{as_integer, as_boolean, as_location}
 use Rattle.rules.specs.declared.Kind.{Kind}
@@ -19,7 +15,6 @@ use Rattle.rules.specs.declared.Slot.TheVariants.{Missing, Empty, Full}
 use Rattle.rules.specs.declared.Held.{Held}
 use Rattle.rules.specs.declared.Held.TheVariants.{Holds, Lacks, Refused}
 use Rattle.rules.specs.declared.Size.{Size}
-use Rattle.rules.specs.declared.Size.TheVariants as Size
 use Rattle.rules.specs.declared.Effect.{Effect}
 use Rattle.rules.specs.declared.Effect.TheVariants.{Refuses}
 

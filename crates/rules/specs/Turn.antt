@@ -4,7 +4,6 @@ use Rattle.std.specs.Prelude.{if◌then◌else◌}
 use Rattle.image.specs.declared.reader.Verdict.{Verdict}
 use Rattle.image.specs.declared.reader.Verdict.TheVariants.{TooLong, BadAt, Good}
 use Rattle.image.specs.declared.records.Fetched.{Fetched}
-use Rattle.image.specs.declared.records.Fetched.TheVariants as Fetched
 use Rattle.image.specs.Records.{fetched_at}
 use Rattle.image.specs.Reading.{read_image}
 use Rattle.rules.specs.declared.Thread.{Thread}

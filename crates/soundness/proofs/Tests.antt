@@ -8,9 +8,7 @@ use Rattle.laws.proofs.Choice.{either_way}
 use Rattle.value.specs.declared.Value.{Value}
 use Rattle.value.specs.declared.Value.TheVariants.{Integer, Float, Boolean, Nil, Location}
 use Rattle.value.specs.declared.wanted.Answer.{Answer}
-use Rattle.value.specs.declared.wanted.Answer.TheVariants as Answer
 use Rattle.value.specs.declared.wanted.Place.{Place}
-use Rattle.value.specs.declared.wanted.Place.TheVariants as Place
 use Rattle.value.specs.Range.{well_formed}
 use Rattle.value.specs.Wanted.{as_location}
 use Rattle.numbers.specs.declared.Operation.{Operation}

@@ -15,7 +15,7 @@ use Rattle.laws.proofs.Choice.{tested}
 use Rattle.laws.proofs.Every.{All, all_nil, all_cons, all-get, all-also}
 use Rattle.rules.specs.Claim.{Seat, Claim}
 use Rattle.rules.specs.Calls.{Machine, claim_at}
-use Rattle.rules.specs.Sound.{seat_sound, sound}
+use Rattle.rules.specs.Sound.{seat_sound}
 use Rattle.laying.specs.Laid.{laid_book, laid_claim}
 use Rattle.laying.proofs.Pairs.{plain-take}
 use Rattle.laying.proofs.Fitting.{Fit}

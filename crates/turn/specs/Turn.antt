@@ -2,7 +2,6 @@
 use Rattle.std.specs.Prelude.{ℕ, ◌%◌, List, get_or, take, eqb}
 use Rattle.std.specs.Prelude.{if◌then◌else◌}
 use Rattle.image.specs.declared.records.Fetched.{Fetched}
-use Rattle.image.specs.declared.records.Fetched.TheVariants as Fetched
 use Rattle.image.specs.Records.{fetched_at}
 use Rattle.rules.specs.declared.Thread.{Thread}
 use Rattle.rules.specs.declared.Effect.{Effect}
@@ -11,7 +10,6 @@ use Rattle.rules.specs.Decide.{View, decide}
 use Rattle.rules.specs.Turn.{answer_of}
 use Rattle.cells.specs.Lent.{view_on}
 use Rattle.threads.specs.declared.Found.{Found}
-use Rattle.threads.specs.declared.Found.TheVariants as Found
 use Rattle.threads.specs.Heads.{thread_in}
 use Rattle.threads.specs.Row.{found_from}
 use Rattle.book.specs.declared.Tally.{Tally}

@@ -11,7 +11,6 @@ use Rattle.value.specs.Refusals.{no_threads_left}
 use Rattle.kinds.specs.declared.Instruction.{Instruction}
 use Rattle.image.specs.declared.reader.Verdict.TheVariants.{Good}
 use Rattle.image.specs.declared.records.Fetched.{Fetched}
-use Rattle.image.specs.declared.records.Fetched.TheVariants as Fetched
 use Rattle.image.specs.Records.{fetched_at}
 use Rattle.image.specs.Reading.{read_image, start}
 use Rattle.image.specs.Promise.{Promise}

@@ -2,13 +2,9 @@
 use Rattle.value.specs.declared.Value.{Value}
 use Rattle.value.specs.declared.Value.TheVariants.{Integer, Float, Boolean, Nil, Location}
 use Rattle.value.specs.declared.wanted.Whole.{Whole}
-use Rattle.value.specs.declared.wanted.Whole.TheVariants as Whole
 use Rattle.value.specs.declared.wanted.Real.{Real}
-use Rattle.value.specs.declared.wanted.Real.TheVariants as Real
 use Rattle.value.specs.declared.wanted.Truth.{Truth}
-use Rattle.value.specs.declared.wanted.Truth.TheVariants as Truth
 use Rattle.value.specs.declared.wanted.Place.{Place}
-use Rattle.value.specs.declared.wanted.Place.TheVariants as Place
 use Rattle.value.specs.Refusals.{wrong_kind}
 
 unfoldable pub as_integer : Value → Whole

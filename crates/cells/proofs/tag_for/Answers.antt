@@ -1,10 +1,4 @@
 -- `cells::tag_for` meets its contract: a value's tag is below 8, so that the kind's bit has room. Assumes nothing.
-use borrow.Author.Rules.{rules}
-use mathlib.Core.Path.{ap}
-use Prim.Native.Nat.{◌+◌}
-use Rattle.value.specs.declared.coding.Coded.{Coded}
-use Rattle.value.specs.Coding.{encoded}
-use Rattle.cells.specs.Lent.{tag_for}
 use Rattle.cells.proofs.Room.{tag_fits}
 use Rattle.cells.proofs.tag_for.Goals as goal
 

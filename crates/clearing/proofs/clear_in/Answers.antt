@@ -1,7 +1,6 @@
 -- `clearing::clear_in` meets its contract: there is no such seat, or its parts lie where a sound state says, and what is left in them is the machine's clearing. Assumes nothing.
 use native.Mathlib.Omega.{arith}
 use mathlib.Core.Path.{sym, ◌∙◌}
-use borrow.Author.Rules.{rules}
 use Rattle.state.proofs.Regions.{region-at, region-nowhere}
 use Rattle.calls.proofs.Answers.{clears-nothing, clears-there}
 use Rattle.clearing.proofs.clear_in.Goals as goal

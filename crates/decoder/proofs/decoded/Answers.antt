@@ -1,6 +1,5 @@
 -- `decoder::decoded` meets its contract: each arm answers what the row of its kind says. Assumes nothing.
 use mathlib.Core.Path.{refl}
-use borrow.Author.Rules.{rules}
 use Rattle.numbers.specs.declared.Operation.TheVariants.{Add, Sub, Mul, Div, Less, Equal}
 use Rattle.kinds.specs.declared.Instruction.TheVariants as I
 use Rattle.kinds.specs.Table.{instruction_kind, instructions, float_means, truth_means, frame_means}

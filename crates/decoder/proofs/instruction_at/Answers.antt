@@ -1,5 +1,4 @@
 -- `decoder::instruction_at` meets its contract: the bytes from the place on begin with the instruction there. Assumes nothing.
-use borrow.Author.Rules.{rules}
 use Rattle.decoder.proofs.Begins.{past_end, begins}
 use Rattle.decoder.proofs.instruction_at.Goals as goal
 

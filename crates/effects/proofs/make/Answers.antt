@@ -1,5 +1,4 @@
 -- `effects::make` meets its contract: room, then the cells, the thread and the book. Assumes nothing.
-use borrow.Author.Rules.{rules}
 use Rattle.effects.proofs.Enacted.{makes, no_cells}
 use Rattle.effects.specs.Enacted.{parts}
 use mathlib.Core.Path.{refl, ◌∙◌}

@@ -1,5 +1,4 @@
 -- `effects::perform` meets its contract, effect by effect. Assumes nothing.
-use borrow.Author.Rules.{rules}
 use Rattle.effects.proofs.Enacted.{goes, ends, waits, fills, empties}
 use Rattle.effects.specs.Enacted.{parts}
 use Rattle.effects.proofs.perform.Goals as goal

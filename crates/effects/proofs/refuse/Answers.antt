@@ -1,5 +1,4 @@
 -- `effects::refuse` meets its contract, whatever the other parts hold. Assumes nothing.
-use borrow.Author.Rules.{rules}
 use mathlib.Core.Path.{refl}
 use Rattle.effects.proofs.Enacted.{refuses}
 use Rattle.effects.specs.Enacted.{parts}

@@ -1,5 +1,4 @@
 -- `effects::spawn` meets its contract: room, then the threads and the book. Assumes nothing.
-use borrow.Author.Rules.{rules}
 use Rattle.effects.proofs.Enacted.{spawns, no_threads}
 use Rattle.effects.specs.Enacted.{parts}
 use mathlib.Core.Path.{refl, ◌∙◌}

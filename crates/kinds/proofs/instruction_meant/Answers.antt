@@ -1,7 +1,4 @@
 -- `kinds::instruction_meant` meets its contract: each kind's meaning is the table's. Assumes nothing.
-use borrow.Author.Rules.{rules}
-use mir.Syntax.{w64}
-use mir.ValLaws.{of_z-to_z}
 use Rattle.kinds.specs.Table.{instruction_kind, instructions}
 use Rattle.kinds.proofs.Rows.{no-instruction}
 use Rattle.kinds.proofs.instruction_meant.Goals as goal

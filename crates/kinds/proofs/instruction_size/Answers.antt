@@ -1,10 +1,10 @@
 -- `kinds::instruction_size` meets its contract: each kind's length is the table's. Assumes nothing.
 -- the keys of all arms, the last arm's first
-use Prim.Native.Nat.{ℕ, zero-le}
+use Prim.Native.Nat.{ℕ}
 use mathlib.Core.Bool.{Bool}
 use mathlib.Core.List.{List, [], ◌∷◌}
 use lib.Dec.{eqb, eqb→eq}
-use Rattle.laws.proofs.Arms.{keyed, ranged}
+use Rattle.laws.proofs.Arms.{ranged}
 use Rattle.kinds.specs.Table.{instruction_kind, instructions}
 use Rattle.kinds.proofs.Rows.{no-instruction-size}
 use Rattle.kinds.proofs.instruction_size.Goals as goal

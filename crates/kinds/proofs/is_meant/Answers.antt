@@ -1,7 +1,5 @@
 -- `kinds::is_meant` meets its contract: a FLOAT is made, BOOL and FRAME are tested as the table tests them, and every other row means an instruction. Assumes nothing.
-use borrow.Author.Rules.{rules}
-use mathlib.Core.Path.{sym}
-use Rattle.kinds.specs.Table.{instruction_kind, instructions, is_meant}
+use Rattle.kinds.specs.Table.{instruction_kind, instructions}
 use Rattle.kinds.proofs.Meant.{truth-tested, frame-tested, untested, unmeant}
 use Rattle.kinds.proofs.is_meant.Goals as goal
 

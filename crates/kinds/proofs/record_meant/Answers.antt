@@ -1,8 +1,5 @@
 -- `kinds::record_meant` meets its contract: each kind's meaning is the table's. Assumes nothing.
-use borrow.Author.Rules.{rules}
-use Rattle.value.specs.Coding.{decoded, only}
-use Rattle.kinds.specs.Table.{record_kind, records, input_means}
-use Rattle.kinds.proofs.Rows.{no_record}
+use Rattle.kinds.specs.Table.{record_kind, records}
 use Rattle.kinds.proofs.record_meant.Goals as goal
 
 pub returns-in-130 : goal.returns-in-130

@@ -1,8 +1,5 @@
 -- `lent::copy8` meets its contract. The loop's invariant: the first i are copied, and the rest is as before. Assumes nothing.
-use Prim.Native.Nat.{◌-◌}
-use lib.ListN.{length}
-use borrow.Author.Rules.{rules}
-use Rattle.lent.proofs.Writes.{Written, write-start, write-on, copy-end, copy-none}
+use Rattle.lent.proofs.Writes.{write-start, write-on, copy-end, copy-none}
 use Rattle.lent.proofs.copy8.Goals as goal
 
 pub returns-then-to-from : goal.returns-then-to-from

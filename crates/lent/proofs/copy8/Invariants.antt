@@ -1,8 +1,7 @@
 -- `lent::copy8` meets its contract. The loop's invariant: the first i are copied, and the rest is as before. Assumes nothing.
 use Prim.Native.Nat.{◌-◌}
 use lib.ListN.{length}
-use borrow.Author.Rules.{rules}
-use Rattle.lent.proofs.Writes.{Written, write-start, write-on, copy-end, copy-none}
+use Rattle.lent.proofs.Writes.{Written}
 use Rattle.lent.proofs.copy8.Given as goal
 
 abbrev pub invariant-loop-i : goal.invariant-loop-i

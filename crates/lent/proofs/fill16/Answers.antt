@@ -1,10 +1,8 @@
 -- `lent::fill16` meets its contract. The loop's invariant: the first i of the run are written. The measure is what is left of the run. Assumes nothing.
-use Prim.Native.Nat.{◌-◌, ◌≤◌}
 use native.Mathlib.Omega.{arith}
 use native.Mathlib.Numerals.{add-one}
 use mathlib.Core.Path.{◌≡◌, refl, ap, ◌∙◌}
 use lib.ListN.{length, length-set}
-use borrow.Author.Rules.{rules}
 use Rattle.lent.specs.Runs.{filled_from}
 use Rattle.lent.proofs.fill16.Goals as goal
 

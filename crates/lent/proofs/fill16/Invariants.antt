@@ -1,10 +1,7 @@
 -- `lent::fill16` meets its contract. The loop's invariant: the first i of the run are written. The measure is what is left of the run. Assumes nothing.
 use Prim.Native.Nat.{◌-◌, ◌≤◌}
-use native.Mathlib.Omega.{arith}
-use native.Mathlib.Numerals.{add-one}
-use mathlib.Core.Path.{◌≡◌, refl, ap, ◌∙◌}
-use lib.ListN.{length, length-set}
-use borrow.Author.Rules.{rules}
+use mathlib.Core.Path.{◌≡◌}
+use lib.ListN.{length}
 use Rattle.lent.specs.Runs.{filled_from}
 use Rattle.lent.proofs.fill16.Given as goal
 

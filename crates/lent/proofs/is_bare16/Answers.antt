@@ -1,8 +1,5 @@
 -- `lent::is_bare16` meets its contract. The loop's invariant: the slice is all zero if what is tested so far is, and what is left. Assumes nothing.
-use Prim.Native.Nat.{◌-◌}
-use lib.ListN.{length}
-use borrow.Author.Rules.{rules}
-use Rattle.lent.proofs.Bare.{Bare, bare-start, bare-on, bare-off, bare-end}
+use Rattle.lent.proofs.Bare.{bare-start, bare-on, bare-off, bare-end}
 use Rattle.lent.proofs.is_bare16.Goals as goal
 use Rattle.lent.proofs.is_bare16.Goals.{then-s-i-ne0, else-s-i-ne0}
 

@@ -1,9 +1,7 @@
 -- `lent::is_bare16` meets its contract. The loop's invariant: the slice is all zero if what is tested so far is, and what is left. Assumes nothing.
 use Prim.Native.Nat.{◌-◌}
-use mathlib.Core.Logic.{⊎_elim}
 use lib.ListN.{length}
-use borrow.Author.Rules.{rules}
-use Rattle.lent.proofs.Bare.{Bare, bare-start, bare-on, bare-off, bare-end}
+use Rattle.lent.proofs.Bare.{Bare}
 use Rattle.lent.proofs.is_bare16.Given as goal
 
 abbrev pub invariant-loop-i : goal.invariant-loop-i

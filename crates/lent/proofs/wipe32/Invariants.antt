@@ -1,9 +1,8 @@
 -- `lent::wipe32` meets its contract. The loop's invariant: the first i are zero, and the rest is as before. Assumes nothing.
 use Prim.Native.Nat.{◌-◌}
-use lib.ListN.{length, length-set}
-use borrow.Author.Rules.{rules}
+use lib.ListN.{length}
 use Rattle.lent.specs.Runs.{wiped}
-use Rattle.lent.proofs.Writes.{Written, wipe-start, wipe_on, wipe-end}
+use Rattle.lent.proofs.Writes.{Written}
 use Rattle.lent.proofs.wipe32.Given as goal
 
 abbrev pub invariant-loop-i : goal.invariant-loop-i

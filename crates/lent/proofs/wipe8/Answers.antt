@@ -1,9 +1,7 @@
 -- `lent::wipe8` meets its contract. The loop's invariant: the first i are zero, and the rest is as before. Assumes nothing.
-use Prim.Native.Nat.{◌-◌}
-use lib.ListN.{length, length-set}
+use lib.ListN.{length-set}
 use borrow.Author.Rules.{rules}
-use Rattle.lent.specs.Runs.{wiped}
-use Rattle.lent.proofs.Writes.{Written, wipe-start, wipe_on, wipe-end}
+use Rattle.lent.proofs.Writes.{wipe-start, wipe_on, wipe-end}
 use Rattle.lent.proofs.wipe8.Goals as goal
 
 pub loop-i-init : goal.loop-i-init

@@ -1,5 +1,4 @@
 -- `loading::load` meets its contract: an unsound state is refused, and on a sound one it is the seat's load. Assumes nothing.
-use borrow.Author.Rules.{rules}
 use Rattle.laws.proofs.Answers.{failed, passed}
 use Rattle.state.proofs.Stands.{sound-stands}
 use Rattle.calls.proofs.Gates.{load-refused, load_goes}

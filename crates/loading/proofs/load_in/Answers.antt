@@ -1,7 +1,6 @@
 -- `loading::load_in` meets its contract: there is no such seat, or its parts lie where a sound state says, and what is left in them is the machine's load. Assumes nothing.
 use native.Mathlib.Omega.{arith}
 use mathlib.Core.Path.{sym, ◌∙◌}
-use borrow.Author.Rules.{rules}
 use Rattle.lent.proofs.Bytes.{all-below}
 use Rattle.state.proofs.Regions.{region-at, region-nowhere}
 use Rattle.calls.proofs.Answers.{loads-nothing, loads-there}

@@ -1,5 +1,4 @@
 -- `lodging::clear_seat` meets its contract: a vacant seat is left as it is, and of any other all but the shares is wiped. Assumes nothing.
-use borrow.Author.Rules.{rules}
 use Rattle.laying.specs.Laid.{parts}
 use Rattle.lodging.proofs.Lodgings.{left-vacant, emptied-out}
 use Rattle.lodging.proofs.clear_seat.Goals as goal

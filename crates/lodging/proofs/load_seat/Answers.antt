@@ -1,5 +1,4 @@
 -- `lodging::load_seat` meets its contract: the image is judged, and what fits is written to each part by one call. Assumes nothing.
-use borrow.Author.Rules.{rules}
 use Rattle.laying.specs.Laid.{parts}
 use Rattle.lodging.proofs.Lodgings.{turned-away, lodged-in}
 use Rattle.lodging.proofs.load_seat.Goals as goal

@@ -1,11 +1,8 @@
 -- `lodging::write_inputs` meets its contract. The loop's invariant: filling from here comes to what it comes to from the start, and no length changed. The measure is what is left of the count. Assumes nothing.
 use borrow.Author.Rules.{rules}
-use Prim.Native.Nat.{◌-◌}
 use native.Mathlib.Omega.{arith}
-use mathlib.Core.Path.{◌≡◌, refl, ap}
-use lib.ListN.{length}
-use Rattle.lodging.specs.Lodged.{cells}
-use Rattle.lodging.proofs.Inputs.{Filling, is_input, filling-starts, filling-goes-on, filling-stops, filling-ends}
+use mathlib.Core.Path.{refl, ap}
+use Rattle.lodging.proofs.Inputs.{is_input, filling-starts, filling-goes-on, filling-stops, filling-ends}
 use Rattle.lodging.proofs.write_inputs.Goals as goal
 
 pub loop-i-init : goal.loop-i-init

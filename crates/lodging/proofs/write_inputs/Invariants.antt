@@ -1,11 +1,9 @@
 -- `lodging::write_inputs` meets its contract. The loop's invariant: filling from here comes to what it comes to from the start, and no length changed. The measure is what is left of the count. Assumes nothing.
-use borrow.Author.Rules.{rules}
 use Prim.Native.Nat.{◌-◌}
-use native.Mathlib.Omega.{arith}
-use mathlib.Core.Path.{◌≡◌, refl, ap}
+use mathlib.Core.Path.{◌≡◌}
 use lib.ListN.{length}
 use Rattle.lodging.specs.Lodged.{cells}
-use Rattle.lodging.proofs.Inputs.{Filling, is_input, filling-starts, filling-goes-on, filling-stops, filling-ends}
+use Rattle.lodging.proofs.Inputs.{Filling}
 use Rattle.lodging.proofs.write_inputs.Given as goal
 
 abbrev pub invariant-loop-i : goal.invariant-loop-i

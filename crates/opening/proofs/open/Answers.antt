@@ -3,7 +3,6 @@ use borrow.Author.Rules.{rules}
 use Rattle.laws.proofs.Answers.{failed, passed}
 use Rattle.opening.proofs.Openings.{short, unfair, pairs, goes}
 use Rattle.opening.proofs.Openings.{each}
-use Rattle.opening.proofs.Openings.{book-long}
 use Rattle.opening.proofs.open.Goals as goal
 
 pub returns-then-not-is_long : goal.returns-then-not-is_long

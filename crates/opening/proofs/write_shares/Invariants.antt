@@ -1,7 +1,6 @@
 -- `opening::write_shares` meets its contract. The loop's invariant: writing what is left over what stands is writing all. Assumes nothing.
 use Prim.Native.Nat.{◌-◌}
-use borrow.Author.Rules.{rules}
-use Rattle.opening.proofs.Openings.{Shared, shares-start, shares-on, shares-end}
+use Rattle.opening.proofs.Openings.{Shared}
 use Rattle.opening.proofs.write_shares.Given as goal
 
 abbrev pub invariant-loop-k : goal.invariant-loop-k

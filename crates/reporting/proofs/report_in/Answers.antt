@@ -1,7 +1,6 @@
 -- `reporting::report_in` meets its contract: there is no such seat, or its parts lie where a sound state says, and what they say is the machine's report. Assumes nothing.
 use native.Mathlib.Omega.{arith}
 use mathlib.Core.Path.{sym, ◌∙◌}
-use borrow.Author.Rules.{rules}
 use Rattle.state.proofs.Regions.{region-at, region-nowhere}
 use Rattle.calls.proofs.Answers.{shows_nothing, shows-there}
 use Rattle.reporting.proofs.report_in.Goals as goal

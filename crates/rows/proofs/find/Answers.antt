@@ -1,10 +1,8 @@
 -- `rows::find` meets its contract. The loop's invariant: what is found from the next four heads on is what is to be found. Assumes nothing.
-use Prim.Native.Nat.{◌-◌}
 use mathlib.Core.Path.{sym, ap, ◌∙◌}
-use lib.ListN.{length}
 use borrow.Author.Rules.{rules}
 use Rattle.rows.specs.Row.{found_in}
-use Rattle.rows.proofs.Fours.{Sought, fours-start, fours-near, fours-here, fours-few, fours-more, fours-end}
+use Rattle.rows.proofs.Fours.{fours-start, fours-near, fours-here, fours-few, fours-more, fours-end}
 use Rattle.rows.proofs.find.Goals as goal
 
 pub loop-i-init : goal.loop-i-init

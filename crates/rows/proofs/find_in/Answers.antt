@@ -1,5 +1,5 @@
 -- `rows::find_in` meets its contract: a turn of the loop takes the search one record on. Assumes nothing.
-use Rattle.rows.proofs.Search.{search-start, search-here, search-more, search-past, search-end}
+use Rattle.rows.proofs.Search.{search-here, search-more, search-past, search-end}
 use Rattle.rows.proofs.find_in.Goals as goal
 use Rattle.rows.proofs.find_in.Goals.{then-row-i-eq1+else-ready-pick, else-row-i-eq1}
 

@@ -2,7 +2,6 @@
 use native.Mathlib.Omega.{arith}
 use mathlib.Core.Path.{sym}
 use lib.Seq.{length-take-le, take_all}
-use borrow.Author.Rules.{rules}
 use Rattle.rows.proofs.find_live.Goals as goal
 
 pub returns-then-heads-live : goal.returns-then-heads-live

@@ -1,8 +1,6 @@
 -- `running::run` meets its contract: a refusal, or what the entries come to. Assumes nothing.
 use native.Mathlib.Omega.{arith}
 use mathlib.Core.Path.{sym, ◌∙◌}
-use borrow.Author.Rules.{rules}
-use borrow.Author.Tests.{not-true, not-false}
 use Rattle.state.proofs.Stands.{sound-stands}
 use Rattle.running.proofs.Runs.{run-unsound, run-odd, run_long, run-cramped, run-goes}
 use Rattle.running.proofs.run.Goals as goal

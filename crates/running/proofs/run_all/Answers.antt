@@ -1,8 +1,5 @@
 -- `running::run_all` meets its contract. The loop's invariant: what is left comes to what was asked. Assumes nothing.
-use Prim.Native.Nat.{◌-◌}
-use borrow.Author.Rules.{rules}
-use Rattle.state.specs.State.{state}
-use Rattle.running.proofs.Entries.{Reached, run-starts, run-goes-on, run_ends}
+use Rattle.running.proofs.Entries.{run-starts, run-goes-on, run_ends}
 use Rattle.running.proofs.run_all.Goals as goal
 
 pub loop-i-init : goal.loop-i-init

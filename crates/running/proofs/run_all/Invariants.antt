@@ -1,8 +1,7 @@
 -- `running::run_all` meets its contract. The loop's invariant: what is left comes to what was asked. Assumes nothing.
 use Prim.Native.Nat.{◌-◌}
-use borrow.Author.Rules.{rules}
 use Rattle.state.specs.State.{state}
-use Rattle.running.proofs.Entries.{Reached, run-starts, run-goes-on, run_ends}
+use Rattle.running.proofs.Entries.{Reached}
 use Rattle.running.proofs.run_all.Given as goal
 
 abbrev pub invariant-loop-i : goal.invariant-loop-i

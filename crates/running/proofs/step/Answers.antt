@@ -1,7 +1,6 @@
 -- `running::step` meets its contract: there is no such seat, or its parts lie where a sound state says, and what the turn leaves in them is the machine's turn. Assumes nothing.
 use native.Mathlib.Omega.{arith}
 use mathlib.Core.Path.{sym, ◌∙◌}
-use borrow.Author.Rules.{rules}
 use Rattle.state.proofs.Regions.{region-at, region-nowhere}
 use Rattle.running.proofs.Picks.{no-turn, picked, image-inside}
 use Rattle.running.proofs.step.Goals as goal

@@ -1,8 +1,5 @@
 -- `threads::find_ready` meets its contract. The loop's invariant: what is found from here on is what is to be found. Assumes nothing.
-use Prim.Native.Nat.{◌-◌}
-use lib.ListN.{length}
-use borrow.Author.Rules.{rules}
-use Rattle.threads.proofs.Search.{Sought, search-start, search-here, search-more, search-past, search-end}
+use Rattle.threads.proofs.Search.{search-start, search-here, search-more, search-past, search-end}
 use Rattle.threads.proofs.find_ready.Goals as goal
 use Rattle.threads.proofs.find_ready.Goals.{then-heads-i-eq1+else-ready-pick, else-heads-i-eq1}
 

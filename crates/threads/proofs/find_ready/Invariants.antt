@@ -1,9 +1,7 @@
 -- `threads::find_ready` meets its contract. The loop's invariant: what is found from here on is what is to be found. Assumes nothing.
 use Prim.Native.Nat.{◌-◌}
-use mathlib.Core.Logic.{⊎_elim}
 use lib.ListN.{length}
-use borrow.Author.Rules.{rules}
-use Rattle.threads.proofs.Search.{Sought, search-start, search-here, search-more, search-past, search-end}
+use Rattle.threads.proofs.Search.{Sought}
 use Rattle.threads.proofs.find_ready.Given as goal
 
 abbrev pub invariant-loop-i : goal.invariant-loop-i

@@ -1,5 +1,4 @@
 -- `threads::shift` meets its contract: past the end nothing is shifted. Assumes nothing.
-use borrow.Author.Rules.{rules}
 use Rattle.threads.proofs.Shifts.{shift_none}
 use Rattle.threads.proofs.shift.Goals as goal
 

@@ -1,8 +1,5 @@
 -- `threads::shift_in` meets its contract. The loop's invariant: what is to be shifted from here on is what was to be shifted. Assumes nothing.
-use Prim.Native.Nat.{◌-◌}
-use lib.ListN.{length, length-set}
-use borrow.Author.Rules.{rules}
-use Rattle.threads.proofs.Shifts.{Shifting, shift-start, shift-on, shift-end}
+use Rattle.threads.proofs.Shifts.{shift-start, shift-on, shift-end}
 use Rattle.threads.proofs.shift_in.Goals as goal
 
 pub loop-k-init : goal.loop-k-init

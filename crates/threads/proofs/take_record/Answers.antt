@@ -1,5 +1,4 @@
 -- `threads::take_record` meets its contract: head and word are both taken out. Assumes nothing.
-use borrow.Author.Rules.{rules}
 use Rattle.threads.specs.Row.{taken_at}
 use Rattle.threads.proofs.take_record.Goals as goal
 

@@ -1,5 +1,4 @@
 -- `threads::wait_record` meets its contract: taken out, then put last. Assumes nothing.
-use borrow.Author.Rules.{rules}
 use Rattle.threads.proofs.wait_record.Goals as goal
 
 pub returns : goal.returns

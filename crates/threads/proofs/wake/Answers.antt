@@ -1,9 +1,7 @@
 -- `threads::wake` meets its contract. The loop's invariant: all from index j on are woken, and those before not yet. Assumes nothing.
 use native.Mathlib.Omega.{arith}
 use mathlib.Core.Path.{◌≡◌, refl, ◌∙◌}
-use lib.ListN.{length}
-use borrow.Author.Rules.{rules}
-use Rattle.threads.proofs.Wakes.{Waking, wake-start, wake-move, wake-keep, wake-end}
+use Rattle.threads.proofs.Wakes.{wake-start, wake-move, wake-keep, wake-end}
 use Rattle.threads.proofs.wake.Goals as goal
 
 pub loop-j-init : goal.loop-j-init

@@ -1,9 +1,7 @@
 -- `threads::wake` meets its contract. The loop's invariant: all from index j on are woken, and those before not yet. Assumes nothing.
-use native.Mathlib.Omega.{arith}
-use mathlib.Core.Path.{◌≡◌, refl, ◌∙◌}
+use mathlib.Core.Path.{◌≡◌}
 use lib.ListN.{length}
-use borrow.Author.Rules.{rules}
-use Rattle.threads.proofs.Wakes.{Waking, wake-start, wake-move, wake-keep, wake-end}
+use Rattle.threads.proofs.Wakes.{Waking}
 use Rattle.threads.proofs.wake.Given as goal
 
 abbrev pub invariant-loop-j : goal.invariant-loop-j

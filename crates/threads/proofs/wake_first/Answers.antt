@@ -1,5 +1,4 @@
 -- `threads::wake_first` meets its contract: the first `live` records are woken, where there are so many. Assumes nothing.
-use borrow.Author.Rules.{rules}
 use Rattle.threads.proofs.Wakes.{few-heads, few-accs, all-woken}
 use Rattle.threads.proofs.wake_first.Goals as goal
 

@@ -1,5 +1,4 @@
 -- `threads::wake_record` meets its contract: put back, then all that wait there. Assumes nothing.
-use borrow.Author.Rules.{rules}
 use Rattle.threads.proofs.wake_record.Goals as goal
 
 pub returns : goal.returns

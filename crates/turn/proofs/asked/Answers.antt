@@ -1,5 +1,4 @@
 -- `turn::asked` meets its contract: the instruction is fetched and decided. Assumes nothing.
-use borrow.Author.Rules.{rules}
 use Rattle.turn.proofs.Turns.{asks, asks-end}
 use Rattle.turn.proofs.asked.Goals as goal
 

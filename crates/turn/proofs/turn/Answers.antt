@@ -1,5 +1,4 @@
 -- `turn::turn` meets its contract: the gate, the thread picked, and what it asks for, done. Assumes nothing.
-use borrow.Author.Rules.{rules}
 use Rattle.turn.proofs.Turns.{stopped, gone}
 use Rattle.effects.specs.Enacted.{parts}
 use Rattle.turn.proofs.turn.Goals as goal

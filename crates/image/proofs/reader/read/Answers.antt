@@ -1,5 +1,4 @@
 -- `image::reader::read` meets its contract, by what the first record is. Assumes nothing.
-use borrow.Author.Rules.{rules}
 use mathlib.Core.Path.{sym, ◌∙◌}
 use Rattle.image.specs.Reading.{read_first}
 use Rattle.image.proofs.Steps.{image-long, image-judged}

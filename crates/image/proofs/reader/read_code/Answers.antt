@@ -1,5 +1,4 @@
 -- `image::reader::read_code` meets its contract, fault by fault. Assumes nothing.
-use borrow.Author.Rules.{rules}
 use mathlib.Core.Path.{sym, ◌∙◌}
 use Rattle.image.specs.Reading.{judged}
 use Rattle.image.proofs.Steps.{code-faulty, code-judged}

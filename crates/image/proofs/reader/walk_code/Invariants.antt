@@ -1,15 +1,9 @@
 -- `image::reader::walk_code` meets its contract. The loop's invariant: the walk from here answers as the walk from the start. The measure is what is left of the image. Assumes nothing.
-use borrow.Author.Rules.{rules}
 use Prim.Native.Nat.{suc, ◌-◌}
-use native.Mathlib.Omega.{arith}
-use mathlib.Core.Path.{◌≡◌, refl, sym, ◌∙◌}
+use mathlib.Core.Path.{◌≡◌}
 use lib.ListN.{length}
 use Rattle.image.specs.declared.starts.Fault.TheVariants.{At}
 use Rattle.image.specs.Reading.{walk}
-use Rattle.image.proofs.Places.{instruction-there}
-use Rattle.image.proofs.Steps.{walk-ended, walk-bad}
-use Rattle.image.proofs.Strides.{stride-ended, stride-bad, stride-next, flow-there}
-use Rattle.image.proofs.Fuel.{walk-again}
 use Rattle.image.proofs.reader.walk_code.Given as goal
 
 abbrev pub invariant-loop-end : goal.invariant-loop-end

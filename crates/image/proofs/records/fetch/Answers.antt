@@ -1,5 +1,4 @@
 -- `image::records::fetch` meets its contract: an instruction ends behind the position where it starts. Assumes nothing.
-use borrow.Author.Rules.{rules}
 use native.Mathlib.Omega.{arith}
 use mathlib.Core.Path.{sym, ◌∙◌}
 use Rattle.image.specs.Records.{fetched_by}

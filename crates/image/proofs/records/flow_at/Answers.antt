@@ -1,5 +1,4 @@
 -- `image::records::flow_at` meets its contract: a thread goes on from every kind but 00 and 17 to 19. Assumes nothing.
-use borrow.Author.Rules.{rules}
 use mathlib.Core.Path.{sym, ◌∙◌}
 use Rattle.kinds.proofs.Onward.{on_below, on-above}
 use Rattle.image.specs.Records.{flow_in}

@@ -1,5 +1,4 @@
 -- `image::records::head_at` meets its contract: the body is cut out as the rule cuts it. Assumes nothing.
-use borrow.Author.Rules.{rules}
 use mathlib.Core.Path.{sym, ◌∙◌}
 use Rattle.image.specs.Records.{headed}
 use Rattle.image.proofs.Places.{head-none, head-cut, head-there}

@@ -2,7 +2,6 @@
 use mathlib.Core.Path.{sym, ◌∙◌}
 use Rattle.image.specs.Records.{stepped}
 use Rattle.image.proofs.Places.{step-none, step_cut, step_from}
-use borrow.Author.Rules.{rules}
 use Rattle.image.proofs.records.step_at.Goals as goal
 
 pub returns-then-image-at : goal.returns-then-image-at

@@ -1,5 +1,4 @@
 -- `image::records::stride_at` meets its contract: the body is cut out as the rule cuts it, and tested. Assumes nothing.
-use borrow.Author.Rules.{rules}
 use mathlib.Core.Path.{sym, ◌∙◌}
 use Rattle.image.proofs.Strides.{no-stride, stride-cut, stride-meant, stride-broken}
 use Rattle.image.proofs.records.stride_at.Goals as goal

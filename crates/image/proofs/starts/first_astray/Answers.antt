@@ -1,10 +1,6 @@
 -- `image::starts::first_astray` meets its contract. The loop's invariant: the search from here answers as the search from the start. The measure is what is left of the image. Assumes nothing.
-use borrow.Author.Rules.{rules}
-use Prim.Native.Nat.{suc, ◌-◌}
 use native.Mathlib.Omega.{arith}
-use mathlib.Core.Path.{◌≡◌, refl, sym, ◌∙◌}
-use lib.ListN.{length}
-use Rattle.image.specs.Reading.{astray}
+use mathlib.Core.Path.{refl, sym, ◌∙◌}
 use Rattle.image.proofs.Places.{instruction-there}
 use Rattle.image.proofs.Steps.{astray-ended, astray-bad, astray-here}
 use Rattle.image.proofs.Strides.{stride-ended, stride-bad, stride-next, flow-there}

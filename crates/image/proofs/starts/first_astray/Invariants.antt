@@ -1,15 +1,8 @@
 -- `image::starts::first_astray` meets its contract. The loop's invariant: the search from here answers as the search from the start. The measure is what is left of the image. Assumes nothing.
-use borrow.Author.Rules.{rules}
 use Prim.Native.Nat.{suc, ◌-◌}
-use native.Mathlib.Omega.{arith}
-use mathlib.Core.Path.{◌≡◌, refl, sym, ◌∙◌}
+use mathlib.Core.Path.{◌≡◌}
 use lib.ListN.{length}
 use Rattle.image.specs.Reading.{astray}
-use Rattle.image.proofs.Places.{instruction-there}
-use Rattle.image.proofs.Steps.{astray-ended, astray-bad, astray-here}
-use Rattle.image.proofs.Strides.{stride-ended, stride-bad, stride-next, flow-there}
-use Rattle.image.proofs.Fuel.{astray-on}
-use Rattle.image.proofs.Marks.{told}
 use Rattle.image.proofs.starts.first_astray.Given as goal
 
 abbrev pub invariant-loop-behind : goal.invariant-loop-behind

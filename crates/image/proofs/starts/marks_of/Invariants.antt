@@ -1,14 +1,8 @@
 -- `image::starts::marks_of` meets its contract. The loop's invariant: the marks from here on are those of the whole code. The measure is what is left of the image. Assumes nothing.
-use borrow.Author.Rules.{rules}
 use Prim.Native.Nat.{suc, ◌-◌}
-use native.Mathlib.Omega.{arith}
-use mathlib.Core.Path.{◌≡◌, refl, sym, ◌∙◌}
+use mathlib.Core.Path.{◌≡◌}
 use lib.ListN.{length}
 use Rattle.image.specs.Marks.{marks_from, marks}
-use Rattle.image.proofs.Places.{instruction-there}
-use Rattle.image.proofs.Steps.{marks-ended, marks-bad}
-use Rattle.image.proofs.Strides.{stride-ended, stride-bad, stride-next}
-use Rattle.image.proofs.Fuel.{marks-on}
 use Rattle.image.proofs.starts.marks_of.Given as goal
 
 abbrev pub invariant-loop-row : goal.invariant-loop-row

@@ -1,7 +1,6 @@
 -- `inspection::sound::cell_stands` meets its contract: a stray bit, an empty cell, a full one. Assumes nothing.
 use native.Mathlib.Omega.{arith}
 use mathlib.Core.Path.{◌∙◌}
-use borrow.Author.Rules.{rules}
 use Rattle.inspection.specs.Tests.{is_good}
 use Rattle.laws.proofs.Answers.{told}
 use Rattle.inspection.proofs.Cells.{cell-high, cell-empty, cell_full}

@@ -1,5 +1,4 @@
 -- `inspection::sound::claim_stands` meets its contract: each test in its turn. Assumes nothing.
-use borrow.Author.Rules.{rules}
 use Rattle.inspection.specs.Tests.{accepted_stands, claim_stands}
 use Rattle.laws.proofs.Answers.{failed, passed, told}
 use Rattle.inspection.proofs.sound.claim_stands.Goals as goal

@@ -1,7 +1,6 @@
 -- `inspection::sound::record_stands` meets its contract: the accumulator, the place, the position. Assumes nothing.
 use Prim.Native.Nat.{ℕ, ◌^◌, ◌<◌}
 use native.Mathlib.Omega.{arith}
-use borrow.Author.Rules.{rules}
 use Rattle.value.specs.Coding.{decoded}
 use Rattle.image.specs.Reading.{start}
 use Rattle.inspection.specs.Tests.{is_good, place_stands}

@@ -1,10 +1,7 @@
 -- `inspection::sound::records_stand` meets its contract. The loop's invariant: what is left to test is what was to be tested. Assumes nothing.
 use Prim.Native.Nat.{◌-◌}
-use native.Mathlib.Omega.{arith}
-use borrow.Author.Rules.{rules}
 use Rattle.inspection.specs.Tests.{record_stands}
-use Rattle.laws.proofs.Answers.{failed, passed}
-use Rattle.inspection.proofs.Pairs.{Paired, uneven, pair-start, pair-on, pair-off, pair_end}
+use Rattle.inspection.proofs.Pairs.{Paired}
 use Rattle.inspection.proofs.sound.records_stand.Given as goal
 
 abbrev pub invariant-loop-i : goal.invariant-loop-i

@@ -1,7 +1,6 @@
 -- `inspection::sound::row_stands` meets its contract: the live threads, then the bare rest. Assumes nothing.
 use mathlib.Core.Path.{sym}
 use lib.Seq.{length-take-le}
-use borrow.Author.Rules.{rules}
 use Rattle.inspection.specs.Tests.{row_stands, record_stands}
 use Rattle.inspection.proofs.Pairs.{bare-rest, held-is, few-left, few-right}
 use Rattle.laws.proofs.Answers.{failed, passed}

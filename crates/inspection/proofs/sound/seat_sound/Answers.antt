@@ -2,7 +2,6 @@
 use mathlib.Core.Path.{sym}
 use lib.Seq.{length-take-le}
 use borrow.Author.Tests.{eq-eqb, ne_eqb}
-use borrow.Author.Rules.{rules}
 use Rattle.inspection.specs.Tests.{test_on, seat_stands}
 use Rattle.inspection.proofs.Same.{test-sound, room}
 use Rattle.laws.proofs.Answers.{failed, passed}

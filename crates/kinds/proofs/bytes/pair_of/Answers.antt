@@ -1,5 +1,4 @@
 -- `kinds::bytes::pair_of` meets its contract. Assumes nothing.
-use borrow.Author.Rules.{rules}
 use Rattle.kinds.proofs.Numbers.{pair}
 use Rattle.kinds.proofs.bytes.pair_of.Goals as goal
 

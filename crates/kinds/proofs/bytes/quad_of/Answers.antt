@@ -1,5 +1,4 @@
 -- `kinds::bytes::quad_of` meets its contract. Assumes nothing.
-use borrow.Author.Rules.{rules}
 use Rattle.kinds.proofs.Numbers.{quad}
 use Rattle.kinds.proofs.bytes.quad_of.Goals as goal
 

@@ -1,5 +1,4 @@
 -- `kinds::bytes::word_of` meets its contract: the lower four bytes, and the higher four. Assumes nothing.
-use borrow.Author.Rules.{rules}
 use Rattle.kinds.specs.Bytes.{word_in}
 use Rattle.kinds.proofs.Numbers.{halves}
 use Rattle.kinds.proofs.bytes.word_of.Goals as goal

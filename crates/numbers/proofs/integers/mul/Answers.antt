@@ -1,7 +1,5 @@
 -- `numbers::integers::mul` meets its contract: small factors, or the test by a division, keep the product within range. Assumes nothing.
 -- what the three calls answered
-use borrow.Author.Rules.{rules}
-use Prim.Native.Nat.{◌<◌}
 use native.Mathlib.Omega.{arith}
 use mathlib.Core.Path.{◌≡◌, sym, ◌∙◌}
 use mathlib.Core.Bool.{true}

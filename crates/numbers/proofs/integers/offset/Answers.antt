@@ -1,7 +1,4 @@
 -- `numbers::integers::offset` meets its contract: the tests keep the location within 65,535, and turn away no other. Assumes nothing.
-use borrow.Author.Rules.{rules}
-use mathlib.Core.Path.{◌≡◌}
-use lib.IntN.{nat_abs}
 use Rattle.laws.proofs.Words.{back}
 use Rattle.numbers.proofs.Moved.{up, above, down, below}
 use Rattle.numbers.proofs.integers.offset.Goals as goal

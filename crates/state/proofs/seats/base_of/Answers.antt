@@ -1,5 +1,5 @@
 -- `state::seats::base_of` meets its contract. The loop's invariant: the sum of the first i shares, each below 2 ^ 32. Assumes nothing.
-use Prim.Native.Nat.{◌*◌, ◌-◌, ◌≤◌, ◌<◌, ◌+◌}
+use Prim.Native.Nat.{◌*◌, ◌<◌, ◌+◌}
 use Prim.Native.Nat.{ℕ}
 use native.Mathlib.Omega.{arith}
 use native.Mathlib.Numerals.{add-one}

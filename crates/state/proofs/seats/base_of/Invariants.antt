@@ -1,13 +1,5 @@
 -- `state::seats::base_of` meets its contract. The loop's invariant: the sum of the first i shares, each below 2 ^ 32. Assumes nothing.
-use Prim.Native.Nat.{◌*◌, ◌-◌, ◌≤◌, ◌<◌, ◌+◌}
-use Prim.Native.Nat.{ℕ}
-use native.Mathlib.Omega.{arith}
-use native.Mathlib.Numerals.{add-one}
-use mathlib.Core.List.{List}
-use mathlib.Core.Path.{◌≡◌, refl}
-use borrow.Author.Rules.{rules}
-use lib.ListN.{get_or}
-use Rattle.state.specs.Seats.{base_of}
+use Prim.Native.Nat.{◌-◌}
 use Rattle.state.proofs.Sums.{Summed}
 use Rattle.state.proofs.seats.base_of.Given as goal
 

@@ -1,8 +1,4 @@
 -- `state::whole::first_of` meets its contract: the share, its limits, then the seat's own parts. Assumes nothing.
-use native.Mathlib.Omega.{arith}
-use mathlib.Core.Path.{sym}
-use lib.Seq.{length-take-le}
-use borrow.Author.Rules.{rules}
 use Rattle.state.proofs.Testing.{first-none, first-unfair, first-over, first-unsound, first-sound}
 use Rattle.state.specs.State.{state}
 use Rattle.state.proofs.whole.first_of.Goals as goal

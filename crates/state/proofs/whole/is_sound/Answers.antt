@@ -1,8 +1,6 @@
 -- `state::whole::is_sound` meets its contract. Assumes nothing.
 use mathlib.Core.Path.{sym, ◌∙◌}
 use lib.Seq.{length-take-le}
-use borrow.Author.Rules.{rules}
-use borrow.Author.Tests.{not-true, not-false}
 use Rattle.state.specs.State.{state}
 use Rattle.state.proofs.Stands.{long-enough, within-long}
 use Rattle.state.proofs.Testing.{too_short, no-first, by-seats, long-by}

@@ -1,9 +1,7 @@
 -- `state::whole::seats_stand` meets its contract. The loop's invariant: what is left to test is what was to be tested. Assumes nothing.
 use Prim.Native.Nat.{◌-◌}
-use mathlib.Core.Path.{ap, ◌∙◌, subst, sym}
-use borrow.Author.Rules.{rules}
-use Rattle.state.specs.State.{state, Ahead, bare, first_in}
-use Rattle.state.proofs.Testing.{Left, left-start, left-room, left-ends, left-on, left_end, ahead-is}
+use Rattle.state.specs.State.{state}
+use Rattle.state.proofs.Testing.{Left}
 use Rattle.state.proofs.whole.seats_stand.Given as goal
 
 abbrev pub invariant-loop-k : goal.invariant-loop-k

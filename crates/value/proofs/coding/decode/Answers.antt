@@ -1,5 +1,4 @@
 -- `value::coding::decode` meets its contract: each tag's test of its word is the definition's. Assumes nothing.
-use borrow.Author.Rules.{rules}
 use borrow.Author.Tests.{eq-eqb, ne_eqb, le-leb, lt-leb}
 use mir.Syntax.{w64}
 use mir.ValLaws.{of_z-to_z}

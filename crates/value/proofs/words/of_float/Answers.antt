@@ -1,5 +1,4 @@
 -- `value::words::of_float` meets its contract: only a NaN differs from itself. Assumes nothing.
-use borrow.Author.Rules.{rules}
 use lib.Ieee.{to_bits}
 use Rattle.laws.proofs.Floats.{equals_itself, differs}
 use Rattle.value.proofs.words.of_float.Goals as goal
