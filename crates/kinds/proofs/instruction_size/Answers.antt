@@ -1,5 +1,4 @@
 -- `kinds::instruction_size` meets its contract: each kind's length is the table's. Assumes nothing.
--- the keys of all arms, the last arm's first
 use Prim.Native.Nat.{ℕ}
 use mathlib.Core.Bool.{Bool}
 use mathlib.Core.List.{List, [], ◌∷◌}
@@ -9,6 +8,7 @@ use Rattle.kinds.specs.Table.{instruction_kind, instructions}
 use Rattle.kinds.proofs.Rows.{no-instruction-size}
 use Rattle.kinds.proofs.instruction_size.Goals as goal
 
+-- the keys of all arms, the last arm's first
 abbrev keys : List (List ℕ)
 keys = (24 ∷ []) ∷ (25 ∷ []) ∷ (23 ∷ []) ∷ (3 ∷ 12 ∷ 14 ∷ []) ∷ (11 ∷ 13 ∷ []) ∷ (4 ∷ []) ∷ (0 ∷ 15 ∷ []) ∷ []
 

@@ -11,9 +11,5 @@ loop-i-init c = write-start c.if-to-from.false
 pub loop-i-preserved : goal.loop-i-preserved
 loop-i-preserved c = write-on c.loop-i.invariant c.loop-i-test.true
 
--- ?? no goal for same-length
--- same_length : tie.Need-same-length invariant-loop decreases-loop
--- same_length c = c.before.loop.invariant.long
-
 pub returns : goal.returns
 returns c = copy-end c.loop-i.invariant c.loop-i-test.false

@@ -17,9 +17,5 @@ loop-i-preserved c =
     let e = c.put16.ensures in
     (omega arith, inv.1, inv.2, ap length e ∙ simp length-set inv.3, rw (add-one c.loop-i.i) (e ∙ rw (inv.4, inv.2)))
 
--- ?? no goal for same-length
--- same_length : tie.Need-same-length invariant-loop decreases-loop
--- same_length c = c.before.loop.invariant.3
-
 pub returns : goal.returns
 returns c = let inv = c.loop-i.invariant in let h : c.loop-i.i ≡ c.args.count = omega arith in rw (← h) inv.4

@@ -10,10 +10,6 @@ use Rattle.lent.proofs.is_bytes.Goals as goal
 pub returns-then-s-eq0 : goal.returns-then-s-eq0
 returns-then-s-eq0 c = sym (none_below 256 c.args.s.now c.if-s-eq0.true)
 
--- ?? no goal for overflow-cast-result
--- cast-result : tie.Need-overflow-cast-result
--- cast-result c = omega (arith, c.shared-slice-known.given 0)
-
 pub returns : goal.returns
 returns c =
     let h : (i : ℕ) → get_or c.args.s.now i 0 < 256 = λ i. omega (arith, c.shared_slice_known-1.given i) in

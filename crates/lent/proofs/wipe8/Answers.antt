@@ -13,9 +13,5 @@ loop-i-smaller c = simp length-set (search rules)
 pub loop-i-preserved : goal.loop-i-preserved
 loop-i-preserved c = wipe_on c.loop-i.invariant c.loop-i-test.true
 
--- ?? no goal for same-length
--- same_length : tie.Need-same-length invariant-loop decreases-loop
--- same_length c = c.before.loop.invariant.long
-
 pub returns : goal.returns
 returns c = wipe-end c.loop-i.invariant c.loop-i-test.false

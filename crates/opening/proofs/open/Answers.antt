@@ -32,9 +32,5 @@ slice_bounds-wipe8-end c = let l = (each _ _ _ _ _ _ (passed c.is_long.ensures c
 pub write_shares-requires : goal.write_shares-requires
 write_shares-requires c = pairs c.args.shares.now (passed c.may_open.ensures c.if-not-may_open.false)
 
--- ?? no goal for same-length
--- same_length : tie.Need-same-length
--- same_length c = book-long _ c.before.before.before.before.before.before.before.before.before.before.before.before.before.before.before.before.before.before.before.before.before.before.before.before.before.before.before.before.before.before.before.before.before.before.before.before.before.before.before.args.book.now c.before.before.before.before.before.before.before.before.before.before.before.before.before.before.before.before.before.before.before.before.before.before.before.before.before.before.wipe32.ensures c.before.before.write-shares.ensures
-
 pub returns : goal.returns
 returns c = goes _ _ (passed c.is_long.ensures c.if-not-is_long.false) (passed c.may_open.ensures c.if-not-may_open.false) c.wipe32.ensures c.write_shares.ensures c.wipe16.ensures c.wipe64.ensures c.wipe64-2.ensures c.wipe64-3.ensures c.wipe8.ensures

@@ -42,9 +42,5 @@ overflow_add-k-in-loop-k-4 c = let v = c.loop-k.invariant in let a = v.most in s
 pub loop-k-preserved : goal.loop-k-preserved
 loop-k-preserved c = rw (c.put32-in-loop-k.ensures, c.put32.ensures) (shares-on c.loop-k.invariant c.loop-k-test.true)
 
--- ?? no goal for same-length
--- same_length : tie.Need-same-length invariant-loop decreases-loop
--- same_length c = c.before.loop.invariant.length-kept
-
 pub returns : goal.returns
 returns c = shares-end c.loop-k.invariant c.loop-k-test.false

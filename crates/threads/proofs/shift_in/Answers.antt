@@ -8,9 +8,5 @@ loop-k-init c = shift-start c.requires
 pub loop-k-preserved : goal.loop-k-preserved
 loop-k-preserved c = shift-on c.loop-k.invariant c.loop-k-test.true
 
--- ?? no goal for same-length
--- same_length : tie.Need-same-length invariant-loop decreases-loop
--- same_length c = simp length-set c.before.loop.invariant.long
-
 pub returns : goal.returns
 returns c = shift-end c.loop-k.invariant c.loop-k-test.false

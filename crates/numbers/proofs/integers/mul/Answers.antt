@@ -1,5 +1,4 @@
 -- `numbers::integers::mul` meets its contract: small factors, or the test by a division, keep the product within range. Assumes nothing.
--- what the three calls answered
 use native.Mathlib.Omega.{arith}
 use mathlib.Core.Path.{◌≡◌, sym, ◌∙◌}
 use mathlib.Core.Bool.{true}
@@ -11,11 +10,13 @@ use Rattle.numbers.proofs.Exact.{answer-fits, answer-told, refused}
 use Rattle.numbers.proofs.Products.{small_product, no-product, product-in, product-out}
 use Rattle.numbers.proofs.integers.mul.Goals as goal
 
+-- small factors
 small : (c : goal.Then-n-lt2147483648) → in_range (c.args.a *ℤ c.args.b) ≡ true
 small c =
     small_product c.args.a c.args.b (rw (rw (back _ c.ranges.a) at c.magnitude-m.ensures) at c.if-m-lt2147483648.true)
     (rw (rw (back _ c.ranges.b) at c.magnitude-n.ensures) at c.if-n-lt2147483648.true)
 
+-- factors that pass the division
 within : (c : goal.Then-m-room_for) → in_range (c.args.a *ℤ c.args.b) ≡ true
 within c =
     let m : c.magnitude-m.result ≡ nat_abs c.args.a = rw (back _ c.ranges.a) at c.magnitude-m.ensures in

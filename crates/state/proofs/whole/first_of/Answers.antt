@@ -13,7 +13,7 @@ pub returns-then-start-cells : goal.returns-then-start-cells
 returns-then-start-cells c = first-over _ _ c.get32-cells.ensures c.if-cells-eq0.false c.get32.ensures c.is_fair.ensures c.if-not-is_fair.false c.requires.start c.if-start-cells.true
 
 pub returns-then-seat_sound : goal.returns-then-seat_sound
-returns-then-seat_sound c = first-sound _ (state c.args.book.now c.args.tags.now c.args.words.now c.args.heads.now c.args.accs.now c.args.images.now) c.get32-cells.ensures c.if-cells-eq0.false c.get32.ensures c.is_fair.ensures c.if-not-is_fair.false c.requires.start c.if-start-cells.false c.seat_sound.ensures c.if-seat_sound.true
+returns-then-seat_sound c = first-sound _ _ c.get32-cells.ensures c.if-cells-eq0.false c.get32.ensures c.is_fair.ensures c.if-not-is_fair.false c.requires.start c.if-start-cells.false c.seat_sound.ensures c.if-seat_sound.true
 
 pub returns : goal.returns
-returns c = first-unsound _ (state c.args.book.now c.args.tags.now c.args.words.now c.args.heads.now c.args.accs.now c.args.images.now) c.get32-cells.ensures c.if-cells-eq0.false c.get32.ensures c.is_fair.ensures c.if-not-is_fair.false c.requires.start c.if-start-cells.false c.seat_sound.ensures c.if-seat_sound.false
+returns c = first-unsound _ _ c.get32-cells.ensures c.if-cells-eq0.false c.get32.ensures c.is_fair.ensures c.if-not-is_fair.false c.requires.start c.if-start-cells.false c.seat_sound.ensures c.if-seat_sound.false
