@@ -1,7 +1,8 @@
 -- The nine numbers that a seat's book holds, and what an effect does to them. Assumes nothing.
 use Rattle.std.specs.Prelude.{ℕ, ◌+◌, ◌-◌, List, get_or, set, leb, ltb}
 use Rattle.std.specs.Prelude.{if◌then◌else◌}
-use Rattle.value.specs.Refusals.{no_cells_left, no_threads_left}
+use Rattle.value.specs.declared.refusals.Refusal.TheVariants.{NoCellsLeft, NoThreadsLeft}
+use Rattle.value.specs.Refusals.{refusal_number}
 use Rattle.rules.specs.declared.Effect.{Effect}
 use Rattle.rules.specs.declared.Effect.TheVariants.{Goes, Ends, Waits, Fills, Empties, Makes, Spawns, Refuses}
 use Rattle.book.specs.declared.Tally.{Tally}
@@ -28,6 +29,10 @@ book_with n b = set (set (set (set (set b 4 n.used) 5 n.live) 6 n.refusal) 7 n.h
 -- a sum that 32 bits hold, else the first
 unfoldable pub sum_or : ℕ → ℕ → ℕ
 sum_or a b = if leb (a + b) 4294967295 then a + b else a
+
+-- the steps of a book, and one more
+abbrev pub next_step : List ℕ → ℕ
+next_step b = sum_or (get_or b 8 0) 1
 
 -- a number that 32 bits hold, else 0
 unfoldable pub narrow : ℕ → ℕ
@@ -56,7 +61,7 @@ tally_after (Fills t k l v) i n = tally_with n n.used n.live n.refusal n.halted
 tally_after (Empties t l) i n = tally_with n n.used n.live n.refusal n.halted
 tally_after (Makes t k m) i n = tally_with n (sum_or n.used m) n.live n.refusal n.halted
 tally_after (Spawns t new) i n = tally_with n n.used (sum_or n.live 1) n.refusal n.halted
-tally_after (Refuses m) i n = tally_with n n.used n.live m (narrow i)
+tally_after (Refuses r) i n = tally_with n n.used n.live (refusal_number r) (narrow i)
 
 -- "then room"
 unfoldable pub room_in : Tally → Effect → Effect
@@ -65,6 +70,6 @@ room_in n Ends = Ends
 room_in n (Waits t l) = Waits t l
 room_in n (Fills t k l v) = Fills t k l v
 room_in n (Empties t l) = Empties t l
-room_in n (Makes t k m) = if leb (n.used + m) n.cells then Makes t k m else Refuses no_cells_left
-room_in n (Spawns t new) = if ltb n.live n.threads then Spawns t new else Refuses no_threads_left
+room_in n (Makes t k m) = if leb (n.used + m) n.cells then Makes t k m else Refuses NoCellsLeft
+room_in n (Spawns t new) = if ltb n.live n.threads then Spawns t new else Refuses NoThreadsLeft
 room_in n (Refuses m) = Refuses m

@@ -1,17 +1,19 @@
 // The nine numbers of a seat's book: read, changed by an effect, and written back.
 #![tactic(auto)]
 
-ghost use Rattle.std.specs.Prelude.{◌≡◌, ◌-◌, get_or, set};
-ghost use Rattle.book.specs.Book.{tally_in, sum_or, narrow};
+ghost use Rattle.std.specs.Prelude.{◌≡◌, set};
+ghost use Rattle.value.specs.Refusals.{refusal_number};
+ghost use Rattle.book.specs.Book.{tally_in, sum_or, narrow, next_step};
 
-use lent::{get32, put32};
+use lent::{get, put};
+use value::refusals::Refusal;
 
 // Where an effect changes a number.
 pub const USED: usize = 4;
 
 pub const LIVE: usize = 5;
 
-#[derive(Clone, Copy)]
+#[derive(Clone, Copy, Debug, PartialEq, Eq)]
 pub struct Tally {
     pub cells: u32,
     pub threads: u32,
@@ -29,15 +31,15 @@ pub fn read_book(book: &[u32]) -> Tally
     ensures { result ≡ tally_in book.now }
 {
     Tally {
-        cells: get32(book, 0),
-        threads: get32(book, 1),
-        length: get32(book, 2),
-        code: get32(book, 3),
-        used: get32(book, 4),
-        live: get32(book, 5),
-        refusal: get32(book, 6),
-        halted: get32(book, 7),
-        steps: get32(book, 8),
+        cells: get(book, 0, 0),
+        threads: get(book, 1, 0),
+        length: get(book, 2, 0),
+        code: get(book, 3, 0),
+        used: get(book, 4, 0),
+        live: get(book, 5, 0),
+        refusal: get(book, 6, 0),
+        halted: get(book, 7, 0),
+        steps: get(book, 8, 0),
     }
 }
 
@@ -45,7 +47,7 @@ pub fn read_book(book: &[u32]) -> Tally
 pub fn sum_or(a: u32, b: u32) -> u32
     ensures { result ≡ sum_or a b }
 {
-    if b <= 4294967295 - a { a + b } else { a }
+    a.checked_add(b).unwrap_or(a)
 }
 
 pub fn one_more(n: u32) -> u32
@@ -54,42 +56,42 @@ pub fn one_more(n: u32) -> u32
     sum_or(n, 1)
 }
 
-pub fn one_less(n: u32) -> u32
-    ensures { result ≡ n - 1 }
-{
-    if 1 <= n { n - 1 } else { 0 }
-}
-
 #[tactic(auto, unfolding(crate::specs::Book::narrow))]
 fn narrowed(i: usize) -> u32
     ensures { result ≡ narrow i }
 {
-    if i <= 4294967295 { i as u32 } else { 0 }
+    u32::try_from(i).unwrap_or(0)
+}
+
+// The steps of a book, and one more.
+fn next_step(book: &[u32]) -> u32
+    ensures { result ≡ next_step book.now }
+{
+    one_more(get(book, 8, 0))
 }
 
 // One step more.
 pub fn count(book: &mut [u32])
-    ensures { book.new ≡ set book.old 8 (sum_or (get_or book.old 8 0) 1) }
+    ensures { book.new ≡ set book.old 8 (next_step book.old) }
 {
-    let steps = get32(&book[..], 8);
-    put32(book, 8, one_more(steps));
+    let steps = next_step(book);
+    put(book, 8, steps);
 }
 
 // One step more, and one other number of the book changed.
 pub fn count_with(book: &mut [u32], at: usize, n: u32)
-    ensures { book.new ≡ set (set book.old at n) 8 (sum_or (get_or book.old 8 0) 1) }
+    ensures { book.new ≡ set (set book.old at n) 8 (next_step book.old) }
 {
-    let steps = get32(&book[..], 8);
-    put32(book, at, n);
-    put32(book, 8, one_more(steps));
+    let steps = next_step(book);
+    put(book, at, n);
+    put(book, 8, steps);
 }
 
-// One step more, and the claim refused by number m, its thread at place i of the row.
-pub fn count_refused(book: &mut [u32], m: u8, i: usize)
-    ensures { book.new ≡ set (set (set book.old 6 m) 7 (narrow i)) 8 (sum_or (get_or book.old 8 0) 1) }
+// One step more, and the claim refused, its thread at place i of the row.
+pub fn count_refused(book: &mut [u32], refusal: Refusal, i: usize)
+    ensures { book.new ≡ set (set (set book.old 6 (refusal_number refusal)) 7 (narrow i)) 8 (next_step book.old) }
 {
-    let steps = get32(&book[..], 8);
-    put32(book, 6, m as u32);
-    put32(book, 7, narrowed(i));
-    put32(book, 8, one_more(steps));
+    put(book, 6, u32::from(u8::from(refusal)));
+    put(book, 7, narrowed(i));
+    count(book);
 }

@@ -1,8 +1,9 @@
 -- Each public call on lent bytes: its answer, and every byte of every buffer afterwards. Assumes nothing.
 -- A sound state is read into claims, the rules say what becomes of them, and they are written back; a refused call leaves every byte.
-use Rattle.std.specs.Prelude.{ℕ, ◌/◌, ◌%◌, ◌&&◌, List, [], ◌∷◌, ◌++◌, map, length, drop, leb, eqb}
+use Rattle.std.specs.Prelude.{ℕ, Result, Ok, Err, ◌/◌, ◌%◌, ◌&&◌, List, [], ◌∷◌, ◌++◌, map, length, drop, leb, eqb}
 use Rattle.std.proofs.Math.Option.{Option, none, some}
 use Rattle.std.specs.Prelude.{if◌then◌else◌}
+use Rattle.rules.specs.declared.CallRefusal.{CallRefusal}
 use Rattle.rules.specs.declared.Report.{Report}
 use Rattle.rules.specs.Calls.{Machine, Event, loads, asks, clears, Reply, number, placed, told, blank, message, tell, after, replies, entries, Share, may_open, opened, number_in}
 use Rattle.state.specs.State.{State, long, laid, claims_of}
@@ -20,6 +21,11 @@ unfoldable pub report_in : Reply → Report
 report_in (number n) = blank
 report_in (placed n p) = blank
 report_in (told n r) = r
+
+-- what a report that is not refused says
+abbrev pub reported : Result Report CallRefusal → Report
+reported (Ok r) = r
+reported (Err e) = blank
 
 -- ---- open
 

@@ -1,9 +1,7 @@
 -- A cell as its tag and its word: the low three bits of the tag are the value's tag, the next is the kind. Assumes nothing.
-use Rattle.std.specs.Prelude.{ℕ, ◌+◌, ◌-◌, ◌/◌, ◌%◌, ◌&&◌, List, get_or, leb, ltb, eqb}
+use Rattle.std.specs.Prelude.{ℕ, Option, Some, None, ◌+◌, ◌-◌, ◌/◌, ◌%◌, ◌&&◌, List, get_or, leb, ltb, eqb}
 use Rattle.std.specs.Prelude.{if◌then◌else◌}
 use Rattle.value.specs.declared.Value.{Value}
-use Rattle.value.specs.declared.coding.Decoded.{Decoded}
-use Rattle.value.specs.declared.coding.Decoded.TheVariants.{Good, Malformed}
 use Rattle.value.specs.Coding.{tag_of, held_at}
 use Rattle.numbers.specs.Integers.{moved}
 use Rattle.rules.specs.declared.Kind.{Kind}
@@ -11,6 +9,7 @@ use Rattle.rules.specs.declared.Kind.TheVariants.{Icell, Mcell}
 use Rattle.rules.specs.declared.Slot.{Slot}
 use Rattle.rules.specs.declared.Slot.TheVariants.{Missing, Empty, Full}
 use Rattle.rules.specs.Decide.{View}
+use Rattle.cells.specs.declared.Cells.{Cells}
 
 unfoldable pub kind_bit : Kind → ℕ
 kind_bit Icell = 0
@@ -23,9 +22,9 @@ kind_in tag = if eqb (tag / 8 % 2) 0 then Icell else Mcell
 unfoldable pub tag_for : Kind → Value → ℕ
 tag_for k v = tag_of v + kind_bit k
 
-unfoldable pub filled : Kind → Decoded → Slot
-filled k (Good v) = Full k v
-filled k Malformed = Missing
+unfoldable pub filled : Kind → Option Value → Slot
+filled k (Some v) = Full k v
+filled k None = Missing
 
 unfoldable pub slot_at : List ℕ → List ℕ → ℕ → Slot
 slot_at tags words i =
@@ -34,6 +33,9 @@ slot_at tags words i =
 -- "Cells are reached only inside the seat's region and below its used count."
 unfoldable pub look_on : List ℕ → List ℕ → ℕ → ℕ → ℕ → Slot
 look_on tags words used start l = if leb start l && ltb (l - start) used then slot_at tags words (l - start) else Missing
+
+abbrev pub look_in : Cells → ℕ → Slot
+look_in c l = look_on c.tags.now c.words.now c.used c.start l
 
 -- the location of the next cell made; 0 where a location has no room for it
 unfoldable pub fresh_on : ℕ → ℕ → ℕ

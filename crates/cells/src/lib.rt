@@ -3,15 +3,41 @@
 
 ghost use Rattle.std.specs.Prelude.{◌≡◌, ◌-◌};
 ghost use Rattle.value.specs.Coding.{word_of};
-ghost use Rattle.cells.specs.Lent.{kind_bit, kind_in, tag_for, filled, slot_at, look_on, fresh_on};
+ghost use Rattle.cells.specs.Lent.{kind_bit, kind_in, tag_for, slot_at, look_in, fresh_on};
 ghost use Rattle.rules.specs.declared.Kind.TheVariants.{Mcell};
 ghost use Rattle.lent.specs.Runs.{filled_from};
 ghost use Rattle.cells.specs.Written.{set_below};
 
-use lent::{fill16, get16, put16, put64};
+use lent::{fill_from, get, put};
 use rules::{Kind, Slot};
-use value::coding::Decoded;
 use value::{Value, coding};
+
+// A seat's used cells as its threads see them: their tags and words, how many, and the location of the first.
+#[derive(Clone, Copy)]
+pub struct Cells<'a> {
+    pub tags: &'a [u16],
+    pub words: &'a [u64],
+    pub used: u32,
+    pub start: u32,
+}
+
+impl<'a> Cells<'a> {
+    // The cell at a location, as the seat sees it.
+    #[tactic(auto, unfolding(crate::specs::Lent::look_on))]
+    pub fn look(self, l: usize) -> Slot
+        ensures { result ≡ look_in self.entry l }
+    {
+        let first = self.start as usize;
+        if l < first {
+            return Slot::Missing;
+        }
+        let i = l - first;
+        if self.used as usize <= i {
+            return Slot::Missing;
+        }
+        slot_at(self.tags, self.words, i)
+    }
+}
 
 #[tactic(auto, unfolding(crate::specs::Lent::kind_in))]
 fn kind_in(tag: u16) -> Kind
@@ -34,42 +60,19 @@ fn kind_bit(k: Kind) -> u16
     }
 }
 
-#[tactic(auto, unfolding(crate::specs::Lent::filled))]
-fn full_slot(k: Kind, d: Decoded) -> Slot
-    ensures { result ≡ filled k d }
-{
-    match d {
-        Decoded::Good(v) => Slot::Full(k, v),
-        Decoded::Malformed => Slot::Missing,
-    }
-}
-
-#[tactic(auto, unfolding(crate::specs::Lent::slot_at))]
+#[tactic(auto, unfolding(crate::specs::Lent::filled, crate::specs::Lent::slot_at))]
 fn slot_at(tags: &[u16], words: &[u64], i: usize) -> Slot
     ensures { result ≡ slot_at tags.now words.now i }
 {
-    let tag = get16(tags, i);
+    let tag = get(tags, i, 0);
     let kind = kind_in(tag);
     if tag % 8 == 0 {
         return Slot::Empty(kind);
     }
-    full_slot(kind, coding::held_at(tags, words, i))
-}
-
-// The cell at a location, as the seat sees it.
-#[tactic(auto, unfolding(crate::specs::Lent::look_on))]
-pub fn look(tags: &[u16], words: &[u64], used: u32, start: u32, l: usize) -> Slot
-    ensures { result ≡ look_on tags.now words.now used start l }
-{
-    let first = start as usize;
-    if l < first {
-        return Slot::Missing;
+    match coding::held_at(tags, words, i) {
+        Some(v) => Slot::Full(kind, v),
+        None => Slot::Missing,
     }
-    let i = l - first;
-    if used as usize <= i {
-        return Slot::Missing;
-    }
-    slot_at(tags, words, i)
 }
 
 // The location of the next cell made.
@@ -77,32 +80,7 @@ pub fn look(tags: &[u16], words: &[u64], used: u32, start: u32, l: usize) -> Slo
 pub fn fresh(used: u32, start: u32) -> u16
     ensures { result ≡ fresh_on used start }
 {
-    let l = start as u64 + used as u64;
-    if l <= 65535 { l as u16 } else { 0 }
-}
-
-#[tactic(auto, unfolding(crate::specs::Lent::tag_for, value::specs::Coding::encoded))]
-fn tag_for(k: Kind, v: Value) -> u16
-    ensures { result ≡ tag_for k v }
-{
-    let c = coding::encode(v);
-    c.tag + kind_bit(k)
-}
-
-#[tactic(auto, unfolding(value::specs::Coding::encoded))]
-fn word_for(v: Value) -> u64
-    ensures { result ≡ word_of v }
-{
-    let c = coding::encode(v);
-    c.word
-}
-
-// How far a location lies behind the region's start.
-fn past(l: usize, start: u32) -> usize
-    ensures { result ≡ l - start }
-{
-    let first = start as usize;
-    if first <= l { l - first } else { 0 }
+    u16::try_from(u64::from(start) + u64::from(used)).unwrap_or(0)
 }
 
 #[tactic(auto, unfolding(crate::specs::Written::set_below))]
@@ -112,21 +90,30 @@ fn put_below(n: u32, tags: &mut [u16], words: &mut [u64], i: usize, tag: u16, wo
     if n as usize <= i {
         return;
     }
-    put16(tags, i, tag);
-    put64(words, i, word);
+    put(tags, i, tag);
+    put(words, i, word);
+}
+
+// How far a location lies behind the region's start.
+fn past(l: usize, start: u32) -> usize
+    ensures { result ≡ l - start }
+{
+    l.saturating_sub(start as usize)
 }
 
 // The cell at a location takes a value.
+#[tactic(auto, unfolding(crate::specs::Lent::tag_for, value::specs::Coding::encoded))]
 pub fn fill(tags: &mut [u16], words: &mut [u64], used: u32, start: u32, k: Kind, l: usize, v: Value)
     ensures { (tags.new ≡ set_below used (l - start) (tag_for k v) tags.old) × (words.new ≡ set_below used (l - start) (word_of v) words.old) }
 {
+    let c = coding::encode(v);
     put_below(
         used,
         tags,
         words,
         past(l, start),
-        tag_for(k, v),
-        word_for(v),
+        c.tag + kind_bit(k),
+        c.word,
     );
 }
 
@@ -142,5 +129,5 @@ pub fn empty(tags: &mut [u16], words: &mut [u64], used: u32, start: u32, l: usiz
 pub fn make(tags: &mut [u16], used: u32, k: Kind, n: u16)
     ensures { tags.new ≡ filled_from used n (kind_bit k) tags.old }
 {
-    fill16(tags, used, n, kind_bit(k));
+    fill_from(tags, used, n, kind_bit(k));
 }

@@ -1,22 +1,20 @@
 // What an instruction does, decided over shared slices: one function a family, the tests in the paper's order. Nothing is written.
 #![tactic(auto)]
 
-ghost use Rattle.std.specs.Prelude.{◌≡◌};
+ghost use Rattle.std.specs.Prelude.{◌≡◌, Ok};
 ghost use Rattle.kinds.specs.declared.Instruction.TheVariants as I;
-ghost use Rattle.cells.specs.Lent.{fresh_on, view_on};
+ghost use Rattle.cells.specs.Lent.{fresh_on};
 ghost use Rattle.value.specs.declared.Value.TheVariants.{Nil, Location};
 ghost use Rattle.rules.specs.declared.Effect.TheVariants.{Goes, Waits, Fills, Makes, Spawns};
-ghost use Rattle.rules.specs.Decide.{View, thread, if_full, if_empty, gives, again, fetches, stores, allocates, decide};
+ghost use Rattle.rules.specs.Decide.{thread, told, if_full, if_empty, gives, again, fetches, stores, allocates};
+ghost use Rattle.slots.specs.Standing.{seen, decision};
 
 use kinds::Instruction;
 use numbers::Operation;
-use rules::{Effect, Held, Kind, Size, Thread};
-use slots::{
-    Standing, cell_at, cell_in, integer_of, location_of, size_of, slot_value, truth_of, with_first,
-};
+use rules::{Effect, Kind, Thread};
+use slots::{Standing, cell_in, size_of, with_first};
 use value::Value;
-use value::refusals::CELL_FULL;
-use value::wanted::{Answer, Place, Truth, Whole};
+use value::refusals::Refusal;
 
 // The thread on its way, at a position with an accumulator.
 fn moved_to(position: u16, th: Thread, acc: Value) -> Thread
@@ -31,244 +29,206 @@ fn moved_to(position: u16, th: Thread, acc: Value) -> Thread
 
 // Goes on to the next instruction with this accumulator.
 fn with_acc(at: Standing, acc: Value) -> Effect
-    ensures { result ≡ Goes (thread at.after at.thread.frame acc) }
+    ensures { result ≡ Goes (thread at.entry.after at.entry.thread.frame acc) }
 {
-    let th = at.thread;
-    Effect::Goes(moved_to(at.after, th, acc))
+    Effect::Goes(moved_to(at.after, at.thread, acc))
 }
 
 #[tactic(auto, unfolding(rules::specs::Decide::decide))]
-fn load(tags: &[u16], words: &[u64], at: Standing, s: u8) -> Effect
-    ensures { result ≡ decide at.after (view_on tags.now words.now at.used at.start) at.thread (I.Load s) }
+fn load(at: Standing, s: u8) -> Result<Effect, Refusal>
+    ensures { told result ≡ decision at.entry (I.Load s) }
 {
-    match slot_value(tags, words, at, s) {
-        Answer::Is(v) => with_acc(at, v),
-        Answer::Refused(n) => Effect::Refuses(n),
-    }
+    Ok(with_acc(at, at.slot_value(s)?))
 }
 
 // Full or not, the accumulator becomes nil.
 #[tactic(auto, unfolding(rules::specs::Decide::decide, rules::specs::Decide::if_full))]
-fn touch(tags: &[u16], words: &[u64], at: Standing, s: u8) -> Effect
-    ensures { result ≡ decide at.after (view_on tags.now words.now at.used at.start) at.thread (I.Touch s) }
+fn touch(at: Standing, s: u8) -> Result<Effect, Refusal>
+    ensures { told result ≡ decision at.entry (I.Touch s) }
 {
-    let th = at.thread;
-    let frame = th.frame;
-    let l = frame as usize + s as usize;
-    match cell_in(
-        Kind::Icell,
-        cell_at(tags, words, at.used, at.start, frame, s),
-    ) {
-        Held::Holds(_) => with_acc(at, Value::Nil),
-        Held::Lacks => Effect::Waits(moved_to(at.after, th, Value::Nil), l),
-        Held::Refused(n) => Effect::Refuses(n),
+    let frame = at.thread.frame;
+    let l = usize::from(frame) + usize::from(s);
+    match cell_in(Kind::Icell, at.cell_at(frame, s))? {
+        Some(_) => Ok(with_acc(at, Value::Nil)),
+        None => Ok(Effect::Waits(moved_to(at.after, at.thread, Value::Nil), l)),
     }
 }
 
 // STORE, PUT, ISTORE and MSTORE, by what the cell at l holds.
 #[tactic(auto, unfolding(rules::specs::Decide::if_empty))]
-fn store_into(kind: Kind, l: usize, v: Value, at: Standing, h: Held) -> Effect
-    ensures { result ≡ if_empty (Fills (thread at.after at.thread.frame at.thread.acc) kind l v) h }
+fn store_into(
+    kind: Kind,
+    l: usize,
+    v: Value,
+    at: Standing,
+    held: Option<Value>,
+) -> Result<Effect, Refusal>
+    ensures { told result ≡ if_empty (Fills (thread at.entry.after at.entry.thread.frame at.entry.thread.acc) kind l v) (Ok held) }
 {
-    let th = at.thread;
-    let acc = th.acc;
-    match h {
-        Held::Holds(_) => Effect::Refuses(CELL_FULL),
-        Held::Lacks => Effect::Fills(moved_to(at.after, th, acc), kind, l, v),
-        Held::Refused(n) => Effect::Refuses(n),
+    match held {
+        Some(_) => Err(Refusal::CellFull),
+        None => Ok(Effect::Fills(moved_to(at.after, at.thread, at.thread.acc), kind, l, v)),
     }
 }
 
-#[tactic(auto, unfolding(rules::specs::Decide::decide))]
-fn store(tags: &[u16], words: &[u64], at: Standing, s: u8) -> Effect
-    ensures { result ≡ decide at.after (view_on tags.now words.now at.used at.start) at.thread (I.Store s) }
+#[tactic(auto, unfolding(rules::specs::Decide::decide, rules::specs::Decide::if_empty))]
+fn store(at: Standing, s: u8) -> Result<Effect, Refusal>
+    ensures { told result ≡ decision at.entry (I.Store s) }
 {
-    let th = at.thread;
-    let frame = th.frame;
-    let acc = th.acc;
-    let h = cell_in(
+    let frame = at.thread.frame;
+    let held = cell_in(Kind::Icell, at.cell_at(frame, s))?;
+    store_into(
         Kind::Icell,
-        cell_at(tags, words, at.used, at.start, frame, s),
-    );
-    store_into(Kind::Icell, frame as usize + s as usize, acc, at, h)
+        usize::from(frame) + usize::from(s),
+        at.thread.acc,
+        at,
+        held,
+    )
 }
 
-#[tactic(auto, unfolding(rules::specs::Decide::decide))]
-fn put(tags: &[u16], words: &[u64], at: Standing, s: u8, k: u8) -> Effect
-    ensures { result ≡ decide at.after (view_on tags.now words.now at.used at.start) at.thread (I.Put s k) }
+#[tactic(auto, unfolding(rules::specs::Decide::decide, rules::specs::Decide::if_empty, rules::specs::Tests::location_of))]
+fn put(at: Standing, s: u8, k: u8) -> Result<Effect, Refusal>
+    ensures { told result ≡ decision at.entry (I.Put s k) }
 {
-    let th = at.thread;
-    let acc = th.acc;
-    match location_of(slot_value(tags, words, at, s)) {
-        Place::Is(l) => {
-            let h = cell_in(Kind::Icell, cell_at(tags, words, at.used, at.start, l, k));
-            store_into(Kind::Icell, l as usize + k as usize, acc, at, h)
-        }
-        Place::Refused(n) => Effect::Refuses(n),
-    }
+    let l = u16::try_from(at.slot_value(s)?)?;
+    let held = cell_in(Kind::Icell, at.cell_at(l, k))?;
+    store_into(
+        Kind::Icell,
+        usize::from(l) + usize::from(k),
+        at.thread.acc,
+        at,
+        held,
+    )
 }
 
 // ISTORE and MSTORE.
-#[tactic(auto, unfolding(rules::specs::Decide::stores))]
-fn store_at(tags: &[u16], words: &[u64], at: Standing, kind: Kind, s: u8, t: u8) -> Effect
-    ensures { result ≡ stores at.after (view_on tags.now words.now at.used at.start) at.thread kind s t }
+#[tactic(auto, unfolding(rules::specs::Decide::stores, rules::specs::Decide::if_empty, rules::specs::Tests::location_of))]
+fn store_at(at: Standing, kind: Kind, s: u8, t: u8) -> Result<Effect, Refusal>
+    ensures { told result ≡ stores at.entry.after (seen at.entry) at.entry.thread kind s t }
 {
-    match location_of(slot_value(tags, words, at, s)) {
-        Place::Is(l) => match slot_value(tags, words, at, t) {
-            Answer::Is(v) => {
-                let h = cell_in(kind, cell_at(tags, words, at.used, at.start, l, 0));
-                store_into(kind, l as usize, v, at, h)
-            }
-            Answer::Refused(n) => Effect::Refuses(n),
-        },
-        Place::Refused(n) => Effect::Refuses(n),
-    }
+    let l = u16::try_from(at.slot_value(s)?)?;
+    let v = at.slot_value(t)?;
+    let held = cell_in(kind, at.cell_at(l, 0))?;
+    store_into(kind, usize::from(l), v, at, held)
 }
 
-// IFETCH, GET and MFETCH, by what the cell at l holds, whatever else the thread may see.
+// IFETCH, GET and MFETCH, by what the cell at l holds.
 #[tactic(auto, unfolding(rules::specs::Decide::gives, rules::specs::Decide::if_full))]
-fn fetch_from(kind: Kind, l: usize, at: Standing, h: Held) -> Effect
-    ensures { (see : View) → result ≡ if_full (gives at.after see at.thread kind l) (Waits (again at.after see at.thread) l) h }
+fn fetch_from(kind: Kind, l: usize, at: Standing, held: Option<Value>) -> Effect
+    ensures { result ≡ if_full (gives at.entry.after (seen at.entry) at.entry.thread kind l) (Waits (again at.entry.after (seen at.entry) at.entry.thread) l) (Ok held) }
 {
-    let th = at.thread;
-    match h {
-        Held::Holds(v) => match kind {
+    match held {
+        Some(v) => match kind {
             Kind::Icell => with_acc(at, v),
-            Kind::Mcell => Effect::Empties(moved_to(at.after, th, v), l),
+            Kind::Mcell => Effect::Empties(moved_to(at.after, at.thread, v), l),
         },
-        Held::Lacks => Effect::Waits(moved_to(th.position, th, Value::Nil), l),
-        Held::Refused(n) => Effect::Refuses(n),
+        None => Effect::Waits(moved_to(at.thread.position, at.thread, Value::Nil), l),
     }
 }
 
-#[tactic(auto, unfolding(rules::specs::Decide::fetches))]
-fn fetch(tags: &[u16], words: &[u64], at: Standing, kind: Kind, s: u8, k: u8) -> Effect
-    ensures { result ≡ fetches at.after (view_on tags.now words.now at.used at.start) at.thread kind s k }
+#[tactic(auto, unfolding(rules::specs::Decide::fetches, rules::specs::Decide::if_full, rules::specs::Tests::location_of))]
+fn fetch(at: Standing, kind: Kind, s: u8, k: u8) -> Result<Effect, Refusal>
+    ensures { told result ≡ fetches at.entry.after (seen at.entry) at.entry.thread kind s k }
 {
-    match location_of(slot_value(tags, words, at, s)) {
-        Place::Is(l) => {
-            let h = cell_in(kind, cell_at(tags, words, at.used, at.start, l, k));
-            fetch_from(kind, l as usize + k as usize, at, h)
-        }
-        Place::Refused(n) => Effect::Refuses(n),
-    }
+    let l = u16::try_from(at.slot_value(s)?)?;
+    let held = cell_in(kind, at.cell_at(l, k))?;
+    Ok(fetch_from(kind, usize::from(l) + usize::from(k), at, held))
 }
 
 fn make(at: Standing, kind: Kind, n: u16) -> Effect
-    ensures { result ≡ Makes (thread at.after at.thread.frame (Location (fresh_on at.used at.start))) kind n }
+    ensures { result ≡ Makes (thread at.entry.after at.entry.thread.frame (Location (fresh_on at.entry.cells.used at.entry.cells.start))) kind n }
 {
-    let th = at.thread;
-    let l = cells::fresh(at.used, at.start);
-    Effect::Makes(moved_to(at.after, th, Value::Location(l)), kind, n)
+    let l = cells::fresh(at.cells.used, at.cells.start);
+    Effect::Makes(moved_to(at.after, at.thread, Value::Location(l)), kind, n)
 }
 
-#[tactic(auto, unfolding(rules::specs::Decide::allocates, rules::specs::Decide::makes))]
-fn allocate(tags: &[u16], words: &[u64], at: Standing, kind: Kind, s: u8) -> Effect
-    ensures { result ≡ allocates at.after (view_on tags.now words.now at.used at.start) at.thread kind s }
+#[tactic(auto, unfolding(rules::specs::Decide::allocates, rules::specs::Decide::makes, rules::specs::Tests::integer_of, rules::specs::Tests::size_of))]
+fn allocate(at: Standing, kind: Kind, s: u8) -> Result<Effect, Refusal>
+    ensures { told result ≡ allocates at.entry.after (seen at.entry) at.entry.thread kind s }
 {
-    match size_of(integer_of(slot_value(tags, words, at, s))) {
-        Size::Is(n) => make(at, kind, n),
-        Size::Refused(n) => Effect::Refuses(n),
-    }
+    let size = size_of(i64::try_from(at.slot_value(s)?)?)?;
+    Ok(make(at, kind, size))
 }
 
 fn spawn(at: Standing, a: u16, frame: u16) -> Effect
-    ensures { result ≡ Spawns (thread at.after at.thread.frame at.thread.acc) (thread a frame Nil) }
+    ensures { result ≡ Spawns (thread at.entry.after at.entry.thread.frame at.entry.thread.acc) (thread a frame Nil) }
 {
-    let th = at.thread;
-    let acc = th.acc;
     let new = Thread {
         position: a,
         frame,
         acc: Value::Nil,
     };
-    Effect::Spawns(moved_to(at.after, th, acc), new)
+    Effect::Spawns(moved_to(at.after, at.thread, at.thread.acc), new)
+}
+
+#[tactic(auto, unfolding(rules::specs::Decide::decide, rules::specs::Tests::location_of))]
+fn apply(at: Standing, a: u16, s: u8) -> Result<Effect, Refusal>
+    ensures { told result ≡ decision at.entry (I.Apply a s) }
+{
+    Ok(spawn(at, a, u16::try_from(at.slot_value(s)?)?))
 }
 
 #[tactic(auto, unfolding(rules::specs::Decide::decide))]
-fn apply(tags: &[u16], words: &[u64], at: Standing, a: u16, s: u8) -> Effect
-    ensures { result ≡ decide at.after (view_on tags.now words.now at.used at.start) at.thread (I.Apply a s) }
+fn binary(at: Standing, op: Operation, s: u8, t: u8) -> Result<Effect, Refusal>
+    ensures { told result ≡ decision at.entry (I.Binary op s t) }
 {
-    match location_of(slot_value(tags, words, at, s)) {
-        Place::Is(l) => spawn(at, a, l),
-        Place::Refused(n) => Effect::Refuses(n),
-    }
+    let first = at.slot_value(s);
+    Ok(with_acc(at, with_first(op, first, at.slot_value(t))?))
 }
 
-#[tactic(auto, unfolding(rules::specs::Decide::decide))]
-fn binary(tags: &[u16], words: &[u64], at: Standing, op: Operation, s: u8, t: u8) -> Effect
-    ensures { result ≡ decide at.after (view_on tags.now words.now at.used at.start) at.thread (I.Binary op s t) }
+#[tactic(auto, unfolding(rules::specs::Decide::decide, rules::specs::Tests::location_of, rules::specs::Tests::integer_of))]
+fn offset(at: Standing, s: u8, t: u8) -> Result<Effect, Refusal>
+    ensures { told result ≡ decision at.entry (I.Offset s t) }
 {
-    let first = slot_value(tags, words, at, s);
-    match with_first(op, first, slot_value(tags, words, at, t)) {
-        Answer::Is(v) => with_acc(at, v),
-        Answer::Refused(n) => Effect::Refuses(n),
-    }
+    let l = u16::try_from(at.slot_value(s)?)?;
+    let z = i64::try_from(at.slot_value(t)?)?;
+    let moved = numbers::integers::offset(l, z)?;
+    Ok(with_acc(at, Value::Location(moved)))
 }
 
-#[tactic(auto, unfolding(rules::specs::Decide::decide))]
-fn offset(tags: &[u16], words: &[u64], at: Standing, s: u8, t: u8) -> Effect
-    ensures { result ≡ decide at.after (view_on tags.now words.now at.used at.start) at.thread (I.Offset s t) }
+#[tactic(auto, unfolding(rules::specs::Decide::decide, rules::specs::Tests::truth_of))]
+fn switch(at: Standing, s: u8, a: u16, b: u16) -> Result<Effect, Refusal>
+    ensures { told result ≡ decision at.entry (I.Switch s a b) }
 {
-    match location_of(slot_value(tags, words, at, s)) {
-        Place::Is(l) => match integer_of(slot_value(tags, words, at, t)) {
-            Whole::Is(z) => match numbers::integers::offset(l, z) {
-                Place::Is(m) => with_acc(at, Value::Location(m)),
-                Place::Refused(n) => Effect::Refuses(n),
-            },
-            Whole::Refused(n) => Effect::Refuses(n),
-        },
-        Place::Refused(n) => Effect::Refuses(n),
-    }
+    let holds = bool::try_from(at.slot_value(s)?)?;
+    let target = if holds { a } else { b };
+    Ok(Effect::Goes(moved_to(target, at.thread, at.thread.acc)))
 }
 
-#[tactic(auto, unfolding(rules::specs::Decide::decide))]
-fn switch(tags: &[u16], words: &[u64], at: Standing, s: u8, a: u16, b: u16) -> Effect
-    ensures { result ≡ decide at.after (view_on tags.now words.now at.used at.start) at.thread (I.Switch s a b) }
-{
-    let th = at.thread;
-    let acc = th.acc;
-    match truth_of(slot_value(tags, words, at, s)) {
-        Truth::Is(c) => {
-            if c {
-                return Effect::Goes(moved_to(a, th, acc));
-            }
-            Effect::Goes(moved_to(b, th, acc))
-        }
-        Truth::Refused(n) => Effect::Refuses(n),
-    }
-}
-
-// What the thread does by instruction i.
 #[tactic(auto, unfolding(rules::specs::Decide::decide, rules::specs::Decide::makes))]
-pub fn choose(tags: &[u16], words: &[u64], at: Standing, i: Instruction) -> Effect
-    ensures { result ≡ decide at.after (view_on tags.now words.now at.used at.start) at.thread i }
+fn decided(at: Standing, i: Instruction) -> Result<Effect, Refusal>
+    ensures { told result ≡ decision at.entry i }
 {
-    let th = at.thread;
-    let frame = th.frame;
     match i {
-        Instruction::End => Effect::Ends,
-        Instruction::Int(z) => with_acc(at, Value::Integer(z)),
-        Instruction::Float(x) => with_acc(at, Value::Float(x)),
-        Instruction::Bool(b) => with_acc(at, Value::Boolean(b)),
-        Instruction::Nil => with_acc(at, Value::Nil),
-        Instruction::Touch { s } => touch(tags, words, at, s),
-        Instruction::Load { s } => load(tags, words, at, s),
-        Instruction::Store { s } => store(tags, words, at, s),
-        Instruction::Ialloc { s } => allocate(tags, words, at, Kind::Icell, s),
-        Instruction::Malloc { s } => allocate(tags, words, at, Kind::Mcell, s),
-        Instruction::Ifetch { s } => fetch(tags, words, at, Kind::Icell, s, 0),
-        Instruction::Istore { s, t } => store_at(tags, words, at, Kind::Icell, s, t),
-        Instruction::Mfetch { s } => fetch(tags, words, at, Kind::Mcell, s, 0),
-        Instruction::Mstore { s, t } => store_at(tags, words, at, Kind::Mcell, s, t),
-        Instruction::Frame { n } => make(at, Kind::Icell, n as u16),
-        Instruction::Own => with_acc(at, Value::Location(frame)),
-        Instruction::Binary { op, s, t } => binary(tags, words, at, op, s, t),
-        Instruction::Offset { s, t } => offset(tags, words, at, s, t),
-        Instruction::Switch { s, a, b } => switch(tags, words, at, s, a, b),
-        Instruction::Spawn { a } => spawn(at, a, frame),
-        Instruction::Apply { a, s } => apply(tags, words, at, a, s),
-        Instruction::Get { s, k } => fetch(tags, words, at, Kind::Icell, s, k),
-        Instruction::Put { s, k } => put(tags, words, at, s, k),
+        Instruction::End => Ok(Effect::Ends),
+        Instruction::Int(z) => Ok(with_acc(at, Value::Integer(z))),
+        Instruction::Float(x) => Ok(with_acc(at, Value::Float(x))),
+        Instruction::Bool(b) => Ok(with_acc(at, Value::Boolean(b))),
+        Instruction::Nil => Ok(with_acc(at, Value::Nil)),
+        Instruction::Touch { s } => touch(at, s),
+        Instruction::Load { s } => load(at, s),
+        Instruction::Store { s } => store(at, s),
+        Instruction::Ialloc { s } => allocate(at, Kind::Icell, s),
+        Instruction::Malloc { s } => allocate(at, Kind::Mcell, s),
+        Instruction::Ifetch { s } => fetch(at, Kind::Icell, s, 0),
+        Instruction::Istore { s, t } => store_at(at, Kind::Icell, s, t),
+        Instruction::Mfetch { s } => fetch(at, Kind::Mcell, s, 0),
+        Instruction::Mstore { s, t } => store_at(at, Kind::Mcell, s, t),
+        Instruction::Frame { n } => Ok(make(at, Kind::Icell, u16::from(n))),
+        Instruction::Own => Ok(with_acc(at, Value::Location(at.thread.frame))),
+        Instruction::Binary { op, s, t } => binary(at, op, s, t),
+        Instruction::Offset { s, t } => offset(at, s, t),
+        Instruction::Switch { s, a, b } => switch(at, s, a, b),
+        Instruction::Spawn { a } => Ok(spawn(at, a, at.thread.frame)),
+        Instruction::Apply { a, s } => apply(at, a, s),
+        Instruction::Get { s, k } => fetch(at, Kind::Icell, s, k),
+        Instruction::Put { s, k } => put(at, s, k),
     }
+}
+
+// What the thread does by instruction i: a test that fails refuses.
+pub fn choose(at: Standing, i: Instruction) -> Effect
+    ensures { result ≡ decision at.entry i }
+{
+    decided(at, i).unwrap_or_else(Effect::Refuses)
 }

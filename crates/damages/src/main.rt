@@ -4,13 +4,14 @@
 #![tactic(auto)]
 
 use inspection::sound;
-use lent::copy8;
+use inspection::sound::Seat;
+use lent::{overlay, put};
 use lines::line;
 use std::io;
 use std::io::Write;
 
 #[derive(Clone, Copy)]
-struct Seat {
+struct Parts {
     book: [u32; 9],
     tags: [u16; 8],
     words: [u64; 8],
@@ -20,83 +21,69 @@ struct Seat {
     start: u32,
 }
 
-fn stands(s: Seat) -> bool {
-    let book = s.book;
-    let tags = s.tags;
-    let words = s.words;
-    let heads = s.heads;
-    let accs = s.accs;
-    let image = s.image;
-    sound::seat_sound(&book, &tags, &words, &heads, &accs, &image, s.start)
+// A number of a part, with its index, or the region's start.
+#[derive(Clone, Copy)]
+enum Damage {
+    Book(usize, u32),
+    Tag(usize, u16),
+    Word(usize, u64),
+    Head(usize, u64),
+    Acc(usize, u64),
+    Byte(usize, u8),
+    Start(u32),
 }
 
-// The twin stands, and the damaged one does not.
-fn damaged<W: Write>(out: &mut W, name: &[u8], twin: Seat, seat: Seat) -> io::Result<()> {
-    if stands(twin) {
-        line(out, name, !stands(seat))
-    } else {
-        line(out, name, false)
+use Damage::{Acc, Book, Byte, Head, Start, Tag, Word};
+
+impl Parts {
+    fn seat(&self) -> Seat {
+        Seat {
+            book: &self.book,
+            tags: &self.tags,
+            words: &self.words,
+            heads: &self.heads,
+            accs: &self.accs,
+            image: &self.image,
+        }
+    }
+
+    fn stands(&self) -> bool {
+        sound::seat_sound(self.seat(), self.start)
+    }
+
+    fn damaged(mut self, damage: Damage) -> Parts {
+        match damage {
+            Damage::Book(i, n) => put(&mut self.book, i, n),
+            Damage::Tag(i, n) => put(&mut self.tags, i, n),
+            Damage::Word(i, n) => put(&mut self.words, i, n),
+            Damage::Head(i, n) => put(&mut self.heads, i, n),
+            Damage::Acc(i, n) => put(&mut self.accs, i, n),
+            Damage::Byte(i, n) => put(&mut self.image, i, n),
+            Damage::Start(n) => self.start = n,
+        }
+        self
     }
 }
 
-fn in_book<W: Write>(out: &mut W, name: &[u8], s: Seat, i: usize, n: u32) -> io::Result<()> {
-    let mut d = s;
-    if i < 9 {
-        d.book[i] = n;
+// Each case has a name, a twin, and its damage: the twin stands, and the damaged one does not.
+fn run_cases<W: Write>(out: &mut W, cases: &[(&str, &Parts, Damage)]) -> io::Result<()> {
+    for &(name, twin, damage) in cases {
+        let damaged = twin.damaged(damage);
+        line(out, name.as_bytes(), twin.stands() && !damaged.stands())?;
     }
-    damaged(out, name, s, d)
-}
-
-fn in_tags<W: Write>(out: &mut W, name: &[u8], s: Seat, i: usize, n: u16) -> io::Result<()> {
-    let mut d = s;
-    if i < 8 {
-        d.tags[i] = n;
-    }
-    damaged(out, name, s, d)
-}
-
-fn in_words<W: Write>(out: &mut W, name: &[u8], s: Seat, i: usize, n: u64) -> io::Result<()> {
-    let mut d = s;
-    if i < 8 {
-        d.words[i] = n;
-    }
-    damaged(out, name, s, d)
-}
-
-fn in_heads<W: Write>(out: &mut W, name: &[u8], s: Seat, i: usize, n: u64) -> io::Result<()> {
-    let mut d = s;
-    if i < 32 {
-        d.heads[i] = n;
-    }
-    damaged(out, name, s, d)
-}
-
-fn in_accs<W: Write>(out: &mut W, name: &[u8], s: Seat, i: usize, n: u64) -> io::Result<()> {
-    let mut d = s;
-    if i < 32 {
-        d.accs[i] = n;
-    }
-    damaged(out, name, s, d)
-}
-
-fn in_image<W: Write>(out: &mut W, name: &[u8], s: Seat, i: usize, n: u8) -> io::Result<()> {
-    let mut d = s;
-    if i < 4096 {
-        d.image[i] = n;
-    }
-    damaged(out, name, s, d)
+    Ok(())
 }
 
 // Place, position, frame and the accumulator's tag.
 fn head(place: u16, position: u16, frame: u16, tag: u16) -> u64 {
-    place as u64
-        + 0x1_0000 * (position as u64)
-        + 0x1_0000_0000 * (frame as u64)
-        + 0x1_0000_0000_0000 * (tag as u64)
+    u64::from(place)
+        + 0x1_0000 * u64::from(position)
+        + 0x1_0000_0000 * u64::from(frame)
+        + 0x1_0000_0000_0000 * u64::from(tag)
 }
 
-fn vacant() -> Seat {
-    Seat {
+fn vacant() -> Parts {
+    Parts {
         book: [8, 4, 0, 0, 0, 0, 0, 0, 0],
         tags: [0; 8],
         words: [0; 8],
@@ -107,12 +94,9 @@ fn vacant() -> Seat {
     }
 }
 
-fn with_image(s: Seat, bytes: &[u8]) -> Seat {
-    let mut image = [0u8; 4096];
-    copy8(&mut image, bytes);
-    let mut d = s;
-    d.image = image;
-    d
+fn with_image(mut s: Parts, bytes: &[u8]) -> Parts {
+    overlay(&mut s.image, bytes);
+    s
 }
 
 // 80 03, inputs 5 and 7, 85, ADD 1 2, STORE 0, END.
@@ -122,7 +106,7 @@ const W1: [u8; 27] = [
 ];
 
 // W1 after its first step: cells empty, 5, 7; one thread at STORE 0 with 12.
-fn added() -> Seat {
+fn added() -> Parts {
     let mut s = with_image(vacant(), &W1);
     s.book = [8, 4, 27, 21, 3, 1, 0, 0, 1];
     s.tags[1] = 1;
@@ -135,7 +119,7 @@ fn added() -> Seat {
 }
 
 // W3 after its step, its region starting at 5: a thread that waits on the one cell, which is empty.
-fn waiting() -> Seat {
+fn waiting() -> Parts {
     let mut s = with_image(vacant(), b"\x80\x01\x85\x05\x00\x00");
     s.book = [8, 4, 6, 3, 1, 1, 0, 0, 1];
     s.heads[0] = head(7, 2, 5, 4);
@@ -144,7 +128,7 @@ fn waiting() -> Seat {
 }
 
 // W4 at its end: cell 0 holds nil, and the thread at 3 was refused with 5.
-fn refused() -> Seat {
+fn refused() -> Parts {
     let mut s = with_image(vacant(), b"\x80\x01\x85\x04\x07\x00\x07\x00\x00");
     s.book = [8, 4, 9, 3, 1, 1, 5, 0, 3];
     s.tags[0] = 4;
@@ -153,7 +137,7 @@ fn refused() -> Seat {
 }
 
 // W7 at its end, with a ready thread before the one that waits: cells location 2, integer 1, an empty M-cell.
-fn taking() -> Seat {
+fn taking() -> Parts {
     let mut s = with_image(
         vacant(),
         b"\x80\x02\x81\x01\x00\x00\x00\x00\x00\x00\x00\x85\x09\x01\x07\x00\x0C\x00\x00",
@@ -168,21 +152,21 @@ fn taking() -> Seat {
 }
 
 // The same, its first thread refused.
-fn taking_refused() -> Seat {
+fn taking_refused() -> Parts {
     let mut s = taking();
     s.book[6] = 1;
     s
 }
 
 // A claim whose one cell is empty, and no thread left.
-fn spent() -> Seat {
+fn spent() -> Parts {
     let mut s = with_image(vacant(), b"\x80\x01\x85\x00");
     s.book = [8, 4, 4, 3, 1, 0, 0, 0, 1];
     s
 }
 
 // A claim of one cell that holds 1.5, an M-cell, and no thread left.
-fn finished() -> Seat {
+fn finished() -> Parts {
     let mut s = with_image(vacant(), b"\x80\x01\x85\x00");
     s.book = [8, 4, 4, 3, 1, 0, 0, 0, 9];
     s.tags[0] = 10;
@@ -190,190 +174,159 @@ fn finished() -> Seat {
     s
 }
 
-// The parts of `added`, one of them a number short.
-
-fn short_book(s: Seat) -> bool {
-    let book = [8, 4, 27, 21, 3, 1, 0, 0];
-    let tags = s.tags;
-    let words = s.words;
-    let heads = s.heads;
-    let accs = s.accs;
-    let image = s.image;
-    sound::seat_sound(&book, &tags, &words, &heads, &accs, &image, s.start)
-}
-
-fn short_tags(s: Seat) -> bool {
-    let book = s.book;
-    let tags = [0, 1, 1, 0, 0, 0, 0];
-    let words = s.words;
-    let heads = s.heads;
-    let accs = s.accs;
-    let image = s.image;
-    sound::seat_sound(&book, &tags, &words, &heads, &accs, &image, s.start)
-}
-
-fn short_words(s: Seat) -> bool {
-    let book = s.book;
-    let tags = s.tags;
-    let words = [0, 5, 7, 0, 0, 0, 0];
-    let heads = s.heads;
-    let accs = s.accs;
-    let image = s.image;
-    sound::seat_sound(&book, &tags, &words, &heads, &accs, &image, s.start)
-}
-
-fn short_heads(s: Seat) -> bool {
-    let book = s.book;
-    let tags = s.tags;
-    let words = s.words;
-    let mut heads = [0u64; 31];
-    heads[0] = head(1, 3, 0, 1);
-    let accs = s.accs;
-    let image = s.image;
-    sound::seat_sound(&book, &tags, &words, &heads, &accs, &image, s.start)
-}
-
-fn short_accs(s: Seat) -> bool {
-    let book = s.book;
-    let tags = s.tags;
-    let words = s.words;
-    let heads = s.heads;
-    let mut accs = [0u64; 31];
-    accs[0] = 12;
-    let image = s.image;
-    sound::seat_sound(&book, &tags, &words, &heads, &accs, &image, s.start)
-}
-
-fn short_image(s: Seat) -> bool {
-    let book = s.book;
-    let tags = s.tags;
-    let words = s.words;
-    let heads = s.heads;
-    let accs = s.accs;
-    let mut image = [0u8; 4095];
-    copy8(&mut image, &W1);
-    sound::seat_sound(&book, &tags, &words, &heads, &accs, &image, s.start)
-}
-
+// One part of a sound seat is cut short by a number.
 fn lengths<W: Write>(out: &mut W) -> io::Result<()> {
-    let s = added();
-    line(out, b"each part as long as it should be", stands(s))?;
-    line(out, b"book too short", !short_book(s))?;
-    line(out, b"tags too short", !short_tags(s))?;
-    line(out, b"words too short", !short_words(s))?;
-    line(out, b"heads too short", !short_heads(s))?;
-    line(out, b"accumulators too short", !short_accs(s))?;
-    line(out, b"image part too short", !short_image(s))?;
+    let parts = added();
+    line(out, b"each part as long as it should be", parts.stands())?;
+    let seat = parts.seat();
+    let book = &parts.book[..8];
+    let tags = &parts.tags[..7];
+    let words = &parts.words[..7];
+    let heads = &parts.heads[..31];
+    let accs = &parts.accs[..31];
+    let image = &parts.image[..4095];
+    let short = [
+        ("book too short", Seat { book, ..seat }),
+        ("tags too short", Seat { tags, ..seat }),
+        ("words too short", Seat { words, ..seat }),
+        ("heads too short", Seat { heads, ..seat }),
+        ("accumulators too short", Seat { accs, ..seat }),
+        ("image part too short", Seat { image, ..seat }),
+    ];
+    for (name, cut) in short {
+        let sound = sound::seat_sound(cut, parts.start);
+        line(out, name.as_bytes(), !sound)?;
+    }
     Ok(())
 }
 
 fn books<W: Write>(out: &mut W) -> io::Result<()> {
-    let s = added();
-    in_book(out, b"share below the cells lent", s, 0, 7)?;
-    in_book(out, b"share above the cells lent", s, 0, 9)?;
-    in_book(out, b"more threads than the share", s, 1, 0)?;
-    in_book(out, b"image cut short", s, 2, 26)?;
-    in_book(out, b"image over the limit", s, 2, 4097)?;
-    in_book(out, b"code starts too early", s, 3, 20)?;
-    in_book(out, b"code starts too late", s, 3, 24)?;
-    in_book(out, b"fewer cells than slots", spent(), 4, 0)?;
-    in_book(out, b"more cells than the share", s, 4, 9)?;
-    in_book(out, b"a thread not counted", s, 5, 0)?;
-    in_book(out, b"a thread too many", s, 5, 2)?;
-    in_book(out, b"more threads than records", s, 5, 33)?;
-    Ok(())
+    let s = &added();
+    run_cases(
+        out,
+        &[
+            ("share below the cells lent", s, Book(0, 7)),
+            ("share above the cells lent", s, Book(0, 9)),
+            ("more threads than the share", s, Book(1, 0)),
+            ("image cut short", s, Book(2, 26)),
+            ("image over the limit", s, Book(2, 4097)),
+            ("code starts too early", s, Book(3, 20)),
+            ("code starts too late", s, Book(3, 24)),
+            ("fewer cells than slots", &spent(), Book(4, 0)),
+            ("more cells than the share", s, Book(4, 9)),
+            ("a thread not counted", s, Book(5, 0)),
+            ("a thread too many", s, Book(5, 2)),
+            ("more threads than records", s, Book(5, 33)),
+        ],
+    )
 }
 
 fn cells<W: Write>(out: &mut W) -> io::Result<()> {
-    let s = added();
-    in_tags(out, b"value tag 6", s, 1, 6)?;
-    in_tags(out, b"value tag 7", s, 1, 7)?;
-    in_tags(out, b"a bit above the kind", s, 0, 16)?;
-    in_tags(out, b"a bit above a value", s, 2, 17)?;
-    in_tags(out, b"boolean 5", s, 1, 3)?;
-    in_tags(out, b"nil with a word", s, 1, 4)?;
-    in_tags(out, b"empty with a word", s, 1, 0)?;
-    in_words(out, b"word of an empty cell", s, 0, 1)?;
-    in_tags(out, b"tag of an unmade cell", s, 3, 8)?;
-    in_tags(out, b"tag of the last unmade cell", s, 7, 1)?;
-    in_words(out, b"word of an unmade cell", s, 3, 1)?;
-    in_words(out, b"word of the last unmade cell", s, 7, 1)?;
-    let t = taking();
-    in_words(out, b"location over 65,535", t, 0, 65536)?;
-    in_words(out, b"word of an empty M-cell", t, 2, 1)?;
-    let f = finished();
-    in_words(out, b"infinite float", f, 0, 0x7FF0_0000_0000_0000)?;
-    in_words(out, b"float that is no number", f, 0, 0xFFF8_0000_0000_0001)?;
-    Ok(())
+    let s = &added();
+    let t = &taking();
+    let f = &finished();
+    run_cases(
+        out,
+        &[
+            ("value tag 6", s, Tag(1, 6)),
+            ("value tag 7", s, Tag(1, 7)),
+            ("a bit above the kind", s, Tag(0, 16)),
+            ("a bit above a value", s, Tag(2, 17)),
+            ("boolean 5", s, Tag(1, 3)),
+            ("nil with a word", s, Tag(1, 4)),
+            ("empty with a word", s, Tag(1, 0)),
+            ("word of an empty cell", s, Word(0, 1)),
+            ("tag of an unmade cell", s, Tag(3, 8)),
+            ("tag of the last unmade cell", s, Tag(7, 1)),
+            ("word of an unmade cell", s, Word(3, 1)),
+            ("word of the last unmade cell", s, Word(7, 1)),
+            ("location over 65,535", t, Word(0, 65536)),
+            ("word of an empty M-cell", t, Word(2, 1)),
+            ("infinite float", f, Word(0, 0x7FF0_0000_0000_0000)),
+            ("float that is no number", f, Word(0, 0xFFF8_0000_0000_0001)),
+        ],
+    )
 }
 
 fn threads<W: Write>(out: &mut W) -> io::Result<()> {
-    let s = added();
-    in_heads(out, b"place 0", s, 0, head(0, 3, 0, 1))?;
-    in_heads(out, b"waits on a full cell", s, 0, head(3, 3, 0, 1))?;
-    in_heads(out, b"waits on an unmade cell", s, 0, head(5, 3, 0, 1))?;
-    in_heads(out, b"waits past the region", s, 0, head(10, 3, 0, 1))?;
-    in_heads(out, b"position inside a body", s, 0, head(1, 4, 0, 1))?;
-    in_heads(out, b"position past the code", s, 0, head(1, 6, 0, 1))?;
-    in_heads(out, b"no accumulator", s, 0, head(1, 3, 0, 0))?;
-    in_heads(out, b"accumulator's tag 6", s, 0, head(1, 3, 0, 6))?;
-    in_heads(
+    let s = &added();
+    run_cases(
         out,
-        b"accumulator's tag with the kind's bit",
-        s,
-        0,
-        head(1, 3, 0, 9),
-    )?;
-    in_heads(out, b"accumulator nil with a word", s, 0, head(1, 3, 0, 4))?;
-    in_accs(out, b"accumulator's word of nil", waiting(), 0, 1)?;
-    in_accs(out, b"accumulator boolean 2", taking(), 0, 2)?;
-    in_heads(out, b"head of a free record", s, 1, head(1, 3, 0, 4))?;
-    in_heads(out, b"head of the last record", s, 31, 1)?;
-    in_accs(out, b"word of a free record", s, 1, 1)?;
-    in_accs(out, b"word of the last record", s, 31, 1)?;
-    let mut before = waiting();
-    before.start = 6;
-    damaged(out, b"waits before the region", waiting(), before)?;
-    Ok(())
+        &[
+            ("place 0", s, Head(0, head(0, 3, 0, 1))),
+            ("waits on a full cell", s, Head(0, head(3, 3, 0, 1))),
+            ("waits on an unmade cell", s, Head(0, head(5, 3, 0, 1))),
+            ("waits past the region", s, Head(0, head(10, 3, 0, 1))),
+            ("position inside a body", s, Head(0, head(1, 4, 0, 1))),
+            ("position past the code", s, Head(0, head(1, 6, 0, 1))),
+            ("no accumulator", s, Head(0, head(1, 3, 0, 0))),
+            ("accumulator's tag 6", s, Head(0, head(1, 3, 0, 6))),
+            (
+                "accumulator's tag with the kind's bit",
+                s,
+                Head(0, head(1, 3, 0, 9)),
+            ),
+            ("accumulator nil with a word", s, Head(0, head(1, 3, 0, 4))),
+            ("accumulator's word of nil", &waiting(), Acc(0, 1)),
+            ("accumulator boolean 2", &taking(), Acc(0, 2)),
+            ("head of a free record", s, Head(1, head(1, 3, 0, 4))),
+            ("head of the last record", s, Head(31, 1)),
+            ("word of a free record", s, Acc(1, 1)),
+            ("word of the last record", s, Acc(31, 1)),
+            ("waits before the region", &waiting(), Start(6)),
+        ],
+    )
 }
 
 fn images<W: Write>(out: &mut W) -> io::Result<()> {
-    let s = added();
-    in_image(out, b"no 80 first", s, 0, 0x81)?;
-    in_image(out, b"no slots", s, 1, 0)?;
-    in_image(out, b"an input too many", s, 1, 2)?;
-    in_image(out, b"an unknown kind", s, 21, 0x1C)?;
-    in_image(out, b"last instruction of the wrong kind", s, 26, 4)?;
-    in_image(out, b"byte behind the image", s, 27, 1)?;
-    in_image(out, b"last byte of the part", s, 4095, 1)?;
-    Ok(())
+    let s = &added();
+    run_cases(
+        out,
+        &[
+            ("no 80 first", s, Byte(0, 0x81)),
+            ("no slots", s, Byte(1, 0)),
+            ("an input too many", s, Byte(1, 2)),
+            ("an unknown kind", s, Byte(21, 0x1C)),
+            ("last instruction of the wrong kind", s, Byte(26, 4)),
+            ("byte behind the image", s, Byte(27, 1)),
+            ("last byte of the part", s, Byte(4095, 1)),
+        ],
+    )
 }
 
 fn refusals<W: Write>(out: &mut W) -> io::Result<()> {
-    let s = refused();
-    in_book(out, b"refusal 10", s, 6, 10)?;
-    in_book(out, b"refusal 256", s, 6, 256)?;
-    in_book(out, b"refused thread that is not there", s, 7, 1)?;
-    in_book(out, b"refused thread far away", s, 7, 65536)?;
-    in_book(out, b"refused thread without a refusal", taking(), 7, 1)?;
-    in_book(out, b"refused thread that waits", taking_refused(), 7, 1)?;
-    Ok(())
+    let s = &refused();
+    run_cases(
+        out,
+        &[
+            ("refusal 10", s, Book(6, 10)),
+            ("refusal 256", s, Book(6, 256)),
+            ("refused thread that is not there", s, Book(7, 1)),
+            ("refused thread far away", s, Book(7, 65536)),
+            ("refused thread without a refusal", &taking(), Book(7, 1)),
+            ("refused thread that waits", &taking_refused(), Book(7, 1)),
+        ],
+    )
 }
 
 fn vacancies<W: Write>(out: &mut W) -> io::Result<()> {
-    let s = vacant();
-    in_book(out, b"vacant with a code", s, 3, 1)?;
-    in_book(out, b"vacant with a cell", s, 4, 1)?;
-    in_book(out, b"vacant with a thread", s, 5, 1)?;
-    in_book(out, b"vacant with a refusal", s, 6, 1)?;
-    in_book(out, b"vacant with a refused thread", s, 7, 1)?;
-    in_book(out, b"vacant with a step", s, 8, 1)?;
-    in_tags(out, b"vacant with a tag", s, 0, 8)?;
-    in_words(out, b"vacant with a word", s, 7, 1)?;
-    in_heads(out, b"vacant with a head", s, 0, 1)?;
-    in_accs(out, b"vacant with an accumulator", s, 31, 1)?;
-    in_image(out, b"vacant with a byte", s, 9, 1)?;
-    Ok(())
+    let s = &vacant();
+    run_cases(
+        out,
+        &[
+            ("vacant with a code", s, Book(3, 1)),
+            ("vacant with a cell", s, Book(4, 1)),
+            ("vacant with a thread", s, Book(5, 1)),
+            ("vacant with a refusal", s, Book(6, 1)),
+            ("vacant with a refused thread", s, Book(7, 1)),
+            ("vacant with a step", s, Book(8, 1)),
+            ("vacant with a tag", s, Tag(0, 8)),
+            ("vacant with a word", s, Word(7, 1)),
+            ("vacant with a head", s, Head(0, 1)),
+            ("vacant with an accumulator", s, Acc(31, 1)),
+            ("vacant with a byte", s, Byte(9, 1)),
+        ],
+    )
 }
 
 fn main(rt: HostRuntime) -> io::Result<()> {

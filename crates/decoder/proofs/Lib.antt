@@ -1,3 +1,1 @@
-pub mod Shapes
-pub mod Begins
 pub mod Fetched

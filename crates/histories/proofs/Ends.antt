@@ -9,9 +9,9 @@ use lib.Dec.{leb, ltb, eqb}
 use Rattle.std.specs.Prelude.{if◌then◌else◌}
 use Rattle.laws.specs.Lists.{is_none}
 use Rattle.laws.proofs.Choice.{second, tested, either_way}
-use Rattle.image.specs.declared.reader.Verdict.{Verdict}
-use Rattle.image.specs.declared.reader.Verdict.TheVariants.{TooLong, BadAt, Good}
-use Rattle.image.specs.Reading.{read_image, number_of}
+use Rattle.std.specs.Prelude.{Ok, Err}
+use Rattle.image.specs.declared.reader.Fault.TheVariants.{TooLong, BadAt}
+use Rattle.image.specs.Reading.{Verdict, read_image, number_of}
 use Rattle.rules.specs.declared.Effect.{Effect}
 use Rattle.rules.specs.declared.Effect.TheVariants.{Goes, Ends, Waits, Fills, Empties, Makes, Spawns, Refuses}
 use Rattle.rules.specs.Claim.{Claim, status_of, ready_count, seek}
@@ -40,9 +40,9 @@ open-ends s ns =
 module _ (c : Claim) (image : List ℕ) where
   load-by-not-32 : (v : Verdict) → eqb (load_by c image v).number 32 ≡ false
   unfolding load_by number_of
-  load-by-not-32 TooLong = refl
-  load-by-not-32 (BadAt p) = refl
-  load-by-not-32 (Good r n code) = either_way (λ (x : Loading). eqb x.number 32 ≡ false) (leb r c.seat.cells) (λ _. refl) (λ _. refl)
+  load-by-not-32 (Err TooLong) = refl
+  load-by-not-32 (Err (BadAt p)) = refl
+  load-by-not-32 (Ok g) = either_way (λ (x : Loading). eqb x.number 32 ≡ false) (leb g.slots c.seat.cells) (λ _. refl) (λ _. refl)
 
   load-not-32 : eqb (load c image).number 32 ≡ false
   unfolding load

@@ -10,7 +10,7 @@ use lib.ListN.{length, replicate, length-replicate}
 use Rattle.laws.proofs.Absurd.{clash}
 use Rattle.laws.proofs.Every.{All, all_nil, all_cons}
 use Rattle.value.specs.declared.Value.TheVariants.{Integer}
-use Rattle.rules.specs.declared.Outcome.TheVariants.{Nothing, Is}
+use Rattle.std.specs.Prelude.{Some, None}
 use Rattle.rules.specs.declared.Status.TheVariants.{Vacant, Running, Finished}
 use Rattle.rules.specs.Claim.{Claim}
 use Rattle.rules.specs.Calls.{picks, loads, message, entries, Share, report}
@@ -110,7 +110,7 @@ module _ (s : State) (l : long s ≡ true) where
       report-alone k s h i b ∙ ap (λ (c : Claim). shown 0 (report c)) (rw (← retold-shares s h, ← traced k s h i b, e))
 
   -- seat 0 finishes with 12 after 3 steps
-  pub quiet-0 : report_call (after s quiet) 0 ≡ shown 0 (record { status = Finished; refusal = 0; position = 0; used = 3; live = 0; steps = 3; result = Is (Integer (pos 12)) })
+  pub quiet-0 : report_call (after s quiet) 0 ≡ shown 0 (record { status = Finished; refusal = 0; position = 0; used = 3; live = 0; steps = 3; result = Some (Integer (pos 12)) })
   unfolding compute shares_of shares_after trace counted fresh replay
   quiet-0 = shows 0 quiet quiet_told (seat 0 (omega arith)) (all_cons tt one-bytes) quiet_told_lem
 
@@ -124,11 +124,11 @@ module _ (s : State) (l : long s ≡ true) where
       indistinguishable 0 s quiet s busy a b l refl (sym (traced 0 s quiet l a) ∙ ap (trace 0) quiet_told_lem ∙ sym (ap (trace 0) busy-told) ∙ traced 0 s busy l b)
 
   -- which is not the same in both
-  quiet-1 : report_call (after s quiet) 1 ≡ shown 0 (record { status = Vacant; refusal = 0; position = 0; used = 0; live = 0; steps = 0; result = Nothing })
+  quiet-1 : report_call (after s quiet) 1 ≡ shown 0 (record { status = Vacant; refusal = 0; position = 0; used = 0; live = 0; steps = 0; result = None })
   unfolding compute shares_of shares_after trace counted fresh replay
   quiet-1 = shows 1 quiet quiet_told (seat 1 (omega arith)) (all_cons tt one-bytes) quiet_told_lem
 
-  busy-1 : report_call (after s busy) 1 ≡ shown 0 (record { status = Running; refusal = 0; position = 0; used = 3; live = 1; steps = 1; result = Nothing })
+  busy-1 : report_call (after s busy) 1 ≡ shown 0 (record { status = Running; refusal = 0; position = 0; used = 3; live = 1; steps = 1; result = None })
   unfolding compute shares_of shares_after trace counted fresh replay
   busy-1 = shows 1 busy busy_told (seat 1 (omega arith)) (all_cons tt both_bytes) busy-told
 

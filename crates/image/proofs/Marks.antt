@@ -2,7 +2,7 @@
 use Prim.Native.Nat.{ℕ, zero, suc, ◌+◌, ◌<◌, ◌≤◌}
 use native.Mathlib.Omega.{arith}
 use mathlib.Core.Path.{◌≡◌, refl, sym, subst, ◌∙◌}
-use mathlib.Core.Bool.{Bool, true, false, ◌&&◌}
+use mathlib.Core.Bool.{Bool, true, false}
 use mathlib.Core.List.{List, [], ◌∷◌}
 use lib.ListN.{length, get_or, set, replicate, length-set, length-replicate, get_or-replicate, get_or-eq_default}
 use lib.Seq.{get_or-set_same, get_or-set_other}
@@ -13,12 +13,12 @@ use Rattle.laws.proofs.Choice.{tested}
 use Rattle.kinds.specs.declared.Instruction.{Instruction}
 use Rattle.kinds.specs.declared.Flow.{Flow}
 use Rattle.kinds.specs.Flows.{targets}
-use Rattle.image.specs.declared.records.Step.TheVariants.{Next}
 use Rattle.image.specs.Records.{step_at}
 use Rattle.image.specs.Reading.{start_from, start, all_start}
 use Rattle.image.specs.Marks.{marks_from, marks, marked, all_marked}
-use Rattle.image.proofs.Places.{instruction-there}
-use Rattle.image.proofs.Steps.{by-step, start-ended, start-bad, start-here, start-next, marks-ended, marks-bad, marks-next}
+use Rattle.image.proofs.Places.{stands-there}
+use Rattle.image.proofs.Steps.{by-step, start-stop, start-here, start-next, marks-stop, marks-next}
+use Rattle.std.specs.Prelude.{Ok}
 
 module _ (l : List ℕ) (p : ℕ) where
   one : (b : Bool) → ◌≡◌ {A = ℕ} (if b then 1 else 1) 1
@@ -26,7 +26,7 @@ module _ (l : List ℕ) (p : ℕ) where
   one false = refl
 
   -- the turn's own mark
-  here : (k at m : ℕ) (row : List ℕ) {i : Instruction} → step_at l at ≡ Next i m → at < length row → (if start_from k l m p then 1 else get_or (set row at 1) p 0) ≡ (if start_from (suc k) l at p then 1 else get_or row p 0)
+  here : (k at m : ℕ) (row : List ℕ) {i : Instruction} → step_at l at ≡ Ok (i, m) → at < length row → (if start_from k l m p then 1 else get_or (set row at 1) p 0) ≡ (if start_from (suc k) l at p then 1 else get_or row p 0)
   here k at m row e g =
       tested (eqb at p)
       (λ q. let j : get_or (set row at 1) p 0 ≡ 1 = subst (λ (x : ℕ). get_or (set row at 1) x 0 ≡ 1) (eqb-true at p q) (get_or-set_same row at 1 0 g) in
@@ -39,9 +39,8 @@ module _ (l : List ℕ) (p : ℕ) where
   mark-at zero at row h = refl
   mark-at (suc k) at row h =
       by-step l at
-      (λ e. rw (marks-ended l at row e k, start-ended l at p e k))
-      (λ e. rw (marks-bad l at row e k, start-bad l at p e k))
-      (λ i m e. let g = (instruction-there e).passed in
+      (λ r e. rw (marks-stop l at row e k, start-stop l at p e k))
+      (λ i m e. let g = (stands-there e).passed in
       rw (marks-next l at row e k) (mark-at k m (set row at 1) (rw length-set h) ∙ here k at m row e (omega arith)))
 
 zero_row : (n p : ℕ) → ◌≡◌ {A = ℕ} (get_or (replicate n 0) p 0) 0
@@ -65,22 +64,6 @@ pub marks-tell : (l : List ℕ) (code : ℕ) → length l ≤ 4096 → (ps : Lis
 unfolding marks all_marked all_start
 marks-tell l code h [] = refl
 marks-tell l code h (p ∷ ps) = rw (marked_from l code 4096 h p, marks-tell l code h ps)
-
--- ---- what the code finds of the targets
-
-pub unmarked : (row : List ℕ) (code p : ℕ) → length row ≤ code + p → false ≡ marked row code p
-unfolding marked
-unmarked row code p h = rw (get_or-eq_default row 0 h)
-
-pub one-marked : (x r : Bool) → r ≡ x → r ≡ (x && true)
-one-marked true r e = e
-one-marked false r e = e
-
-pub both-marked : (x y r : Bool) → x ≡ true → r ≡ y → r ≡ (x && (y && true))
-both-marked x y r h e = rw h (one-marked y r e)
-
-pub first-unmarked : (x y : Bool) → x ≡ false → false ≡ (x && y)
-first-unmarked x y h = rw h
 
 -- row and f are what the code has of the marks and of an instruction's flow
 pub told : (l : List ℕ) (code : ℕ) → length l ≤ 4096 → {row : List ℕ} {f g : Flow} {r : Bool} → row ≡ marks l code → f ≡ g → r ≡ all_marked row code (targets f) → all_start l code (targets g) ≡ r

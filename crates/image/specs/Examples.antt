@@ -1,18 +1,19 @@
 -- Small images, worked out by hand from document 01, "Images": each way to be bad, and each kind accepted. Assumes nothing.
 use Rattle.std.specs.Prelude.{ℕ, List, [], ◌∷◌}
-use Rattle.image.specs.declared.reader.Verdict.{Verdict}
-use Rattle.image.specs.declared.reader.Verdict.TheVariants.{BadAt, Good}
+use Rattle.std.specs.Prelude.{Ok, Err}
+use Rattle.image.specs.declared.reader.Fault.TheVariants.{BadAt}
+use Rattle.image.specs.Reading.{Verdict}
 
 pub record Example : Type 0 where
   pub image : List ℕ
   pub verdict : Verdict
 
 abbrev bad : List ℕ → ℕ → Example
-bad l p = record { image = l; verdict = BadAt p }
+bad l p = record { image = l; verdict = Err (BadAt p) }
 
 -- with these slots, inputs and start of the code
 abbrev good : List ℕ → ℕ → ℕ → ℕ → Example
-good l r n code = record { image = l; verdict = Good r n code }
+good l r n code = record { image = l; verdict = Ok (record { slots = r; inputs = n; code = code }) }
 
 unfoldable pub examples : List Example
 examples =

@@ -1,11 +1,11 @@
 -- A row of marks, 1 at each place where an instruction starts: how the reader finds bad targets. Nothing else leans on it. Assumes nothing.
 use Rattle.std.specs.Prelude.{ℕ, zero, suc, ◌+◌, Bool, true, ◌&&◌, List, [], ◌∷◌, length, get_or, set, replicate, eqb}
-use Rattle.image.specs.declared.records.Step.{Step}
 use Rattle.image.specs.Records.{step_at}
+use Rattle.std.specs.Prelude.{Ok, Err}
 
 unfoldable pub marks_from : ℕ → List ℕ → ℕ → List ℕ → List ℕ
 marks_from zero l at row = row
-marks_from (suc k) l at row = elim (step_at l at) [ Step.Ended ↦ row | Step.Bad ↦ row | Step.Next i m ↦ marks_from k l m (set row at 1) ]
+marks_from (suc k) l at row = elim (step_at l at) [ Err e ↦ row | Ok (i, m) ↦ marks_from k l m (set row at 1) ]
 
 unfoldable pub marks : List ℕ → ℕ → List ℕ
 marks l code = marks_from (suc (length l)) l code (replicate 4096 0)

@@ -5,15 +5,15 @@ use Rattle.value.specs.Range.{well_formed}
 use Rattle.kinds.specs.declared.Instruction.{Instruction}
 use Rattle.kinds.specs.Flows.{flow_of, closes, targets}
 use Rattle.kinds.specs.Operands.{sane}
-use Rattle.image.specs.declared.records.Fetched.TheVariants as Fetched
 use Rattle.image.specs.Records.{fetched_at, inputs}
 use Rattle.image.specs.Reading.{start, all_start}
+use Rattle.std.specs.Prelude.{Some}
 
 -- a whole, well-formed instruction at position p; its targets are starts, and unless it is END or SWITCH the next position is a start
 pub record Whole (l : List ℕ) (code p : ℕ) : Type 0 where
   pub instruction : Instruction
   pub after : ℕ
-  pub fetched : fetched_at l code p ≡ Fetched.Is instruction after
+  pub fetched : fetched_at l code p ≡ Some (instruction, after)
   pub forward : p < after
   pub within : code + after ≤ length l
   pub operands : sane instruction ≡ true

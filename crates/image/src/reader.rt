@@ -1,47 +1,48 @@
-// The reader: the first fault of an image, or what it promises.
-ghost use Rattle.std.specs.Prelude.{◌≡◌, suc, ◌≤◌, length};
-ghost use Rattle.image.specs.declared.starts.Fault.TheVariants.{At};
+// The reader: the first fault of an image, or how a good one is laid out.
+ghost use Rattle.std.specs.Prelude.{◌≡◌, suc, ◌≤◌, length, Some};
 ghost use Rattle.image.specs.Reading.{ending, walk, read_code, read_inputs, read_image};
 
-use crate::records::{Head, Stride};
-use crate::starts::Fault;
+use crate::records::Stop;
 use crate::{records, starts};
-use kinds::Flow;
+use kinds::{Flow, Record};
 
-#[derive(Clone, Copy)]
-pub enum Verdict {
+// A good image: the slots of the root frame, the inputs, and where the code starts.
+#[derive(Clone, Copy, Debug, PartialEq, Eq)]
+pub struct Layout {
+    pub slots: u8,
+    pub inputs: usize,
+    pub code: usize,
+}
+
+// A bad one: over 4,096 bytes, or at fault at a place.
+#[derive(Clone, Copy, Debug, PartialEq, Eq)]
+pub enum Fault {
     TooLong,
     BadAt(usize),
-    Good {
-        slots: u8,
-        inputs: usize,
-        code: usize,
-    },
 }
 
 #[tactic(auto, unfolding(crate::specs::Reading::ending, kinds::specs::Flows::closes))]
-fn ending_at(f: Flow, at: usize) -> Fault
+fn ending_at(f: Flow, at: usize) -> Option<usize>
     ensures { result ≡ ending f at }
 {
     match f {
-        Flow::On => Fault::At(at),
-        Flow::Stops => Fault::Nowhere,
-        Flow::Jumps(_, _) => Fault::Nowhere,
-        Flow::Forks(_) => Fault::At(at),
+        Flow::Stops | Flow::Jumps(_, _) => None,
+        Flow::On | Flow::Forks(_) => Some(at),
     }
 }
 
-// The first instruction that is not whole, or the last one, if it is of the wrong kind.
-fn walk_code(image: &[u8], code: usize) -> Fault
-    ensures { result ≡ walk (suc (length image.now)) image.now (At (length image.now)) code }
+// The place of the first instruction that is not whole, or of the last one, if it is of the wrong kind.
+#[tactic(auto, using(crate::proofs::Strides::stride_by), unfolding(crate::specs::Reading::walk, crate::specs::Records::stride_at, crate::specs::Records::stride_of))]
+fn walk_code(image: &[u8], code: usize) -> Option<usize>
+    ensures { result ≡ walk (suc (length image.now)) image.now (Some (length image.now)) code }
 {
-    let mut end = Fault::At(image.len());
+    let mut end = Some(image.len());
     let mut at = code;
     loop {
         match records::stride_at(image, at) {
-            Stride::Ended => return end,
-            Stride::Bad => return Fault::At(at),
-            Stride::Next(behind) => {
+            Err(Stop::Ended) => return end,
+            Err(Stop::Bad) => return Some(at),
+            Ok(behind) => {
                 end = ending_at(records::flow_at(image, at), at);
                 at = behind;
             }
@@ -49,25 +50,26 @@ fn walk_code(image: &[u8], code: usize) -> Fault
     }
 }
 
-#[tactic(auto, unfolding(crate::specs::Reading::judged))]
-fn read_code(image: &[u8], slots: u8, inputs: usize, code: usize) -> Verdict
+#[tactic(auto, unfolding(crate::specs::Reading::read_code, crate::specs::Reading::or_else, crate::specs::Reading::judged))]
+fn read_code(image: &[u8], slots: u8, inputs: usize, code: usize) -> Result<Layout, Fault>
     requires { length image.now ≤ 4096 }
     ensures { result ≡ read_code image.now slots inputs code }
 {
-    match walk_code(image, code) {
-        Fault::At(place) => Verdict::BadAt(place),
-        Fault::Nowhere => match starts::first_astray(image, code) {
-            Fault::At(place) => Verdict::BadAt(place),
-            Fault::Nowhere => Verdict::Good {
-                slots,
-                inputs,
-                code,
-            },
-        },
+    if let Some(place) = walk_code(image, code) {
+        return Err(Fault::BadAt(place));
     }
+    if let Some(place) = starts::first_astray(image, code) {
+        return Err(Fault::BadAt(place));
+    }
+    Ok(Layout {
+        slots,
+        inputs,
+        code,
+    })
 }
 
-fn read_inputs(image: &[u8], slots: u8, first: usize) -> Verdict
+#[tactic(auto, using(crate::proofs::Places::passed_by), unfolding(crate::specs::Reading::read_inputs))]
+fn read_inputs(image: &[u8], slots: u8, first: usize) -> Result<Layout, Fault>
     requires { length image.now ≤ 4096 }
     ensures { result ≡ read_inputs (suc (length image.now)) image.now slots 0 first }
 {
@@ -75,14 +77,13 @@ fn read_inputs(image: &[u8], slots: u8, first: usize) -> Verdict
     let mut inputs: usize = 0;
     let mut at = first;
     loop {
-        match records::head_at(image, at) {
-            Head::Ended => return Verdict::BadAt(image.len()),
-            Head::Bad => return Verdict::BadAt(at),
-            Head::Slots(_, _) => return Verdict::BadAt(at),
-            Head::Code(code) => return read_code(image, slots, inputs, code),
-            Head::Input(_, behind) => {
+        match records::whole_at(image, at) {
+            Err(Stop::Ended) => return Err(Fault::BadAt(image.len())),
+            Err(Stop::Bad) | Ok((Record::Slots(_), _)) => return Err(Fault::BadAt(at)),
+            Ok((Record::Code, code)) => return read_code(image, slots, inputs, code),
+            Ok((Record::Input(_), behind)) => {
                 if limit <= inputs + 1 {
-                    return Verdict::BadAt(at);
+                    return Err(Fault::BadAt(at));
                 }
                 inputs += 1;
                 at = behind;
@@ -91,18 +92,15 @@ fn read_inputs(image: &[u8], slots: u8, first: usize) -> Verdict
     }
 }
 
-#[tactic(auto, unfolding(crate::specs::Reading::read_first))]
-pub fn read(image: &[u8]) -> Verdict
+#[tactic(auto, unfolding(crate::specs::Reading::read_image, crate::specs::Reading::read_first))]
+pub fn read(image: &[u8]) -> Result<Layout, Fault>
     ensures { result ≡ read_image image.now }
 {
     if 4096 < image.len() {
-        return Verdict::TooLong;
+        return Err(Fault::TooLong);
     }
-    match records::head_at(image, 0) {
-        Head::Ended => Verdict::BadAt(0),
-        Head::Bad => Verdict::BadAt(0),
-        Head::Slots(slots, first) => read_inputs(image, slots, first),
-        Head::Input(_, _) => Verdict::BadAt(0),
-        Head::Code(_) => Verdict::BadAt(0),
+    match records::whole_at(image, 0) {
+        Ok((Record::Slots(slots), first)) => read_inputs(image, slots, first),
+        _ => Err(Fault::BadAt(0)),
     }
 }

@@ -1,85 +1,60 @@
 // One record of an image, at a place.
 ghost use Rattle.std.specs.Prelude.{◌≡◌, ◌+◌};
-ghost use Rattle.image.specs.Records.{step_at, stride_at, flow_at, head_at, fetched_at};
+ghost use Rattle.image.specs.Records.{whole_at, stride_at, flow_at, fetched_at};
 
-use kinds::{Flow, Instruction, Meaning, Record};
-use value::Value;
+use kinds::{Flow, Instruction, Tabled};
 
-// What stands at a place of the code: nothing, no whole instruction, or one, with the place behind it.
-#[derive(Clone, Copy)]
-pub enum Step {
+// Why nothing whole stands at a place: the image ends there, or a record is unknown, cut short or breaks a rule.
+#[derive(Clone, Copy, Debug, PartialEq, Eq)]
+pub enum Stop {
     Ended,
     Bad,
-    Next(Instruction, usize),
 }
 
-// The same without the instruction.
-#[derive(Clone, Copy)]
-pub enum Stride {
-    Ended,
-    Bad,
-    Next(usize),
-}
-
-// The same before the code: nothing, no good record, or one, with the place behind it.
-#[derive(Clone, Copy)]
-pub enum Head {
-    Ended,
-    Bad,
-    Slots(u8, usize),
-    Input(Value, usize),
-    Code(usize),
-}
-
-// The instruction at a position of the code, with the position behind it.
-#[derive(Clone, Copy)]
-pub enum Fetched {
-    Is(Instruction, usize),
-    Nothing,
-}
-
-#[tactic(auto, unfolding(crate::specs::Records::stepped))]
-pub fn step_at(image: &[u8], at: usize) -> Step
-    ensures { result ≡ step_at image.now at }
+// What stands at a place, an instruction of the code or a record before it, with the place behind it.
+#[tactic(auto, unfolding(crate::specs::Records::whole_at, crate::specs::Records::whole_by, crate::specs::Records::placed))]
+pub fn whole_at<R: Tabled>(image: &[u8], at: usize) -> Result<(R, usize), Stop>
+    ensures { result ≡ whole_at R.table image.now at }
 {
     if image.len() <= at {
-        return Step::Ended;
+        return Err(Stop::Ended);
     }
     let kind = image[at];
-    let size = kinds::instruction_size(kind);
+    let size = R::size(kind);
     if image.len() - at <= size {
-        return Step::Bad;
+        return Err(Stop::Bad);
     }
     let body = at + 1;
     let behind = body + size;
-    match kinds::instruction_meant(kind, &image[body..]) {
-        Meaning::Is(i) => Step::Next(i, behind),
-        Meaning::Broken => Step::Bad,
+    match R::meant(kind, &image[body..behind]) {
+        Some(record) => Ok((record, behind)),
+        None => Err(Stop::Bad),
     }
 }
 
-// As `step_at`, for walks that need no instruction.
-pub fn stride_at(image: &[u8], at: usize) -> Stride
+// The place behind an instruction, for walks that need no instruction: none is made.
+#[tactic(auto, unfolding(crate::specs::Records::stride_at, crate::specs::Records::stride_of, crate::specs::Records::whole_at, crate::specs::Records::whole_by, crate::specs::Records::placed))]
+pub fn stride_at(image: &[u8], at: usize) -> Result<usize, Stop>
     ensures { result ≡ stride_at image.now at }
 {
     if image.len() <= at {
-        return Stride::Ended;
+        return Err(Stop::Ended);
     }
     let kind = image[at];
     let bytes = kinds::instruction_size(kind);
     if image.len() - at <= bytes {
-        return Stride::Bad;
+        return Err(Stop::Bad);
     }
     let body = at + 1;
     let behind = body + bytes;
     if kinds::is_meant(kind, &image[body..behind]) {
-        return Stride::Next(behind);
+        return Ok(behind);
     }
-    Stride::Bad
+    Err(Stop::Bad)
 }
 
 // Where a thread may go from the instruction at a place; on, where there is none. Only END, SWITCH, SPAWN and APPLY are made for it.
-#[tactic(auto, unfolding(crate::specs::Records::flow_in))]
+#[tactic(auto, unfolding(crate::specs::Records::flow_at, crate::specs::Records::flow_in, crate::specs::Records::whole_at))]
 pub fn flow_at(image: &[u8], at: usize) -> Flow
     ensures { result ≡ flow_at image.now at }
 {
@@ -87,46 +62,23 @@ pub fn flow_at(image: &[u8], at: usize) -> Flow
         return Flow::On;
     }
     match image[at] {
-        0x00 | 0x17..=0x19 => match step_at(image, at) {
-            Step::Ended => Flow::On,
-            Step::Bad => Flow::On,
-            Step::Next(i, _) => kinds::flow_of(i),
+        0x00 | 0x17..=0x19 => match whole_at::<Instruction>(image, at) {
+            Ok((i, _)) => kinds::flow_of(i),
+            Err(_) => Flow::On,
         },
         _ => Flow::On,
     }
 }
 
-#[tactic(auto, unfolding(crate::specs::Records::fetched_by))]
-pub fn fetch(image: &[u8], code: u32, position: u16) -> Fetched
+// The instruction at a position of the code, with the position behind it.
+#[tactic(auto, using(crate::proofs::Places::passed_by), unfolding(crate::specs::Records::fetched_at, crate::specs::Records::fetched_by))]
+pub fn fetch(image: &[u8], code: u32, position: u16) -> Option<(Instruction, usize)>
     ensures { result ≡ fetched_at image.now code position }
 {
     let start = code as usize;
     let at = start + (position as usize);
-    match step_at(image, at) {
-        Step::Ended => Fetched::Nothing,
-        Step::Bad => Fetched::Nothing,
-        Step::Next(i, behind) => Fetched::Is(i, behind - start),
-    }
-}
-
-#[tactic(auto, unfolding(crate::specs::Records::headed))]
-pub fn head_at(image: &[u8], at: usize) -> Head
-    ensures { result ≡ head_at image.now at }
-{
-    if image.len() <= at {
-        return Head::Ended;
-    }
-    let kind = image[at];
-    let length = kinds::record_size(kind);
-    if image.len() - at <= length {
-        return Head::Bad;
-    }
-    let body = at + 1;
-    let behind = body + length;
-    match kinds::record_meant(kind, &image[body..behind]) {
-        Record::Slots(r) => Head::Slots(r, behind),
-        Record::Input(v) => Head::Input(v, behind),
-        Record::Code => Head::Code(behind),
-        Record::Wrong => Head::Bad,
+    match whole_at::<Instruction>(image, at) {
+        Ok((i, behind)) => Some((i, behind - start)),
+        Err(_) => None,
     }
 }

@@ -5,55 +5,37 @@ ghost use Rattle.image.specs.Reading.{start, astray};
 ghost use Rattle.image.specs.Marks.{marks, marked, all_marked};
 
 use crate::records;
-use crate::records::Stride;
 use kinds::Flow;
 
-// Where an image is at fault.
-#[derive(Clone, Copy)]
-pub enum Fault {
-    At(usize),
-    Nowhere,
-}
-
 // Whether an instruction starts at a position of the code, found by walking it.
-#[tactic(auto, unfolding(crate::specs::Reading::start))]
+#[tactic(auto, using(crate::proofs::Strides::stride_by), unfolding(crate::specs::Reading::start, crate::specs::Reading::start_from, crate::specs::Records::stride_at, crate::specs::Records::stride_of))]
 pub fn is_start(image: &[u8], code: u32, position: u16) -> bool
     ensures { result ≡ start image.now code position }
 {
     let mut at = code as usize;
     let place = at + (position as usize);
-    loop {
-        match records::stride_at(image, at) {
-            Stride::Ended => return false,
-            Stride::Bad => return false,
-            Stride::Next(behind) => {
-                if at == place {
-                    return true;
-                }
-                at = behind;
-            }
+    while let Ok(behind) = records::stride_at(image, at) {
+        if at == place {
+            return true;
         }
+        at = behind;
     }
+    false
 }
 
 // A row of marks: 1 at each place where an instruction starts.
-#[tactic(auto, unfolding(crate::specs::Marks::marks))]
+#[tactic(auto, using(crate::proofs::Strides::stride_by), unfolding(crate::specs::Marks::marks, crate::specs::Marks::marks_from, crate::specs::Records::stride_at, crate::specs::Records::stride_of))]
 fn marks_of(image: &[u8], code: usize) -> [u8; 4096]
     requires { length image.now ≤ 4096 }
     ensures { result ≡ marks image.now code }
 {
     let mut row = [0u8; 4096];
     let mut at = code;
-    loop {
-        match records::stride_at(image, at) {
-            Stride::Ended => return row,
-            Stride::Bad => return row,
-            Stride::Next(behind) => {
-                row[at] = 1;
-                at = behind;
-            }
-        }
+    while let Ok(behind) = records::stride_at(image, at) {
+        row[at] = 1;
+        at = behind;
     }
+    row
 }
 
 #[tactic(auto, unfolding(crate::specs::Marks::marked))]
@@ -75,37 +57,25 @@ fn targets_marked(row: &[u8], code: usize, f: Flow) -> bool
     ensures { result ≡ all_marked row.now code (targets f) }
 {
     match f {
-        Flow::On => true,
-        Flow::Stops => true,
-        Flow::Jumps(a, b) => {
-            if is_marked(row, code, a) {
-                is_marked(row, code, b)
-            } else {
-                false
-            }
-        }
+        Flow::On | Flow::Stops => true,
+        Flow::Jumps(a, b) => is_marked(row, code, a) && is_marked(row, code, b),
         Flow::Forks(a) => is_marked(row, code, a),
     }
 }
 
-// The first instruction with a target that is no start. The marks are this function's own.
-pub fn first_astray(image: &[u8], code: usize) -> Fault
+// The place of the first instruction with a target that is no start. The marks are this function's own.
+#[tactic(auto, using(crate::proofs::Strides::stride_by), unfolding(crate::specs::Reading::astray, crate::specs::Records::stride_at, crate::specs::Records::stride_of))]
+pub fn first_astray(image: &[u8], code: usize) -> Option<usize>
     requires { length image.now ≤ 4096 }
     ensures { result ≡ astray (suc (length image.now)) image.now code code }
 {
     let row = marks_of(image, code);
     let mut at = code;
-    loop {
-        match records::stride_at(image, at) {
-            Stride::Ended => return Fault::Nowhere,
-            Stride::Bad => return Fault::Nowhere,
-            Stride::Next(behind) => {
-                if targets_marked(&row, code, records::flow_at(image, at)) {
-                    at = behind;
-                } else {
-                    return Fault::At(at);
-                }
-            }
+    while let Ok(behind) = records::stride_at(image, at) {
+        if !targets_marked(&row, code, records::flow_at(image, at)) {
+            return Some(at);
         }
+        at = behind;
     }
+    None
 }

@@ -26,7 +26,7 @@ use Rattle.laying.specs.Back.{unspread, place_read, live_read}
 use Rattle.laying.proofs.Spread.{spread-get}
 use Rattle.laying.proofs.Cells.{slot-at, slot-back}
 use Rattle.laying.proofs.Pairs.{Written}
-use Rattle.inspection.specs.declared.sound.Ground.{Ground}
+use Rattle.inspection.specs.Seats.{Ground}
 use Rattle.inspection.specs.Tests.{place_on, live_on, refusal_stands}
 
 -- ---- what a thread sees
@@ -57,15 +57,15 @@ module _ (c : Claim) (k : ℕ) (tags words : List ℕ) (w : Written cell_tag cel
 
   module _ (code : ℕ) where
     abbrev g : Ground
-    g = record { used = k; start = c.seat.start; code = code }
+    g = record { tags = tags; words = words; used = k; start = c.seat.start; image = c.image; code = code }
 
-    place_same : (q : Place) → place_on tags words g q ≡ place_sound c q
+    place_same : (q : Place) → place_on g q ≡ place_sound c q
     unfolding place_on place_sound
     place_same ready = refl
     place_same (on l) = ap is_empty (look-same l)
 
     -- the test of a live thread, over the parts and over the claim
-    pub live_same : live_on tags words g c.image ≡ live_sound c code
+    pub live_same : live_on g ≡ live_sound c code
     unfolding live_on live_sound
     live_same = fun_ext (λ (t : Live). ap (λ (b : Bool). leb t.thread.frame 65535 && (well_formed t.thread.acc && (start c.image code t.thread.position && b))) (place_same t.place))
 

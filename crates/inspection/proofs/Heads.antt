@@ -3,26 +3,25 @@ use Prim.Native.Nat.{ℕ, ◌-◌, ◌/◌, ◌%◌, ◌^◌, ◌<◌}
 use native.Mathlib.Omega.{arith}
 use native.Mathlib.Nat.{div-div-eq-div-mul}
 use mathlib.Core.Path.{◌≡◌, refl, sym}
-use mathlib.Core.Bool.{Bool, true, false, ◌&&◌}
-use mathlib.Core.List.{List}
+use mathlib.Core.Bool.{Bool, true, false, ◌&&◌, and_comm}
 use lib.Dec.{eqb, leb}
 use borrow.Author.Tests.{eqb-true, eqb-false, eq-eqb, ne_eqb, le-leb, lt-ltb}
-use Rattle.std.specs.Prelude.{if◌then◌else◌}
+use Rattle.std.specs.Prelude.{if◌then◌else◌, Option, Some, None}
+use Rattle.std.specs.Option.{is_some, unwrap_or}
 use Rattle.laws.proofs.Absurd.{clash}
 use Rattle.value.specs.declared.Value.{Value}
 use Rattle.value.specs.declared.Value.TheVariants.{Nil}
-use Rattle.value.specs.declared.coding.Decoded.{Decoded}
-use Rattle.value.specs.declared.coding.Decoded.TheVariants.{Good, Malformed}
 use Rattle.value.specs.Coding.{tag_of, word_of, decoded, only}
 use Rattle.value.specs.Range.{well_formed}
 use Rattle.value.proofs.RoundTrip.{Stands, encode-decode}
 use Rattle.image.specs.Reading.{start}
 use Rattle.rules.specs.Claim.{ready, on}
-use Rattle.threads.specs.Heads.{packed, head_of, wait_place, value_or, thread_in}
+use Rattle.threads.specs.Heads.{packed, head_of, wait_place, thread_in}
 use Rattle.laying.specs.Laid.{place_number, head_number, acc_number}
 use Rattle.laying.specs.Back.{place_read, live_read}
-use Rattle.inspection.specs.declared.sound.Ground.{Ground}
-use Rattle.inspection.specs.Tests.{is_good, stands, place_on, place_stands, live_on, record_stands}
+use Rattle.laying.proofs.Heads.{place-small}
+use Rattle.inspection.specs.Seats.{Ground}
+use Rattle.inspection.specs.Tests.{stands, place_on, place_stands, live_on, record_stands}
 
 -- a place's number, read and written again
 place-again : (p : ℕ) → p < 65536 → (p ≡ 0 → ⊥) → place_number (place_read p) ≡ p
@@ -59,25 +58,11 @@ nowhere : (p : ℕ) → p ≡ 0 → place_number (place_read p) ≡ p → ⊥
 unfolding place_number place_read wait_place
 nowhere p z e = let q : ◌≡◌ {A = ℕ} 2 0 = (rw z at e) in omega arith
 
-nil-good : (t w : ℕ) → t ≡ 4 → w ≡ 0 → decoded t w ≡ Good Nil
+nil-good : (t w : ℕ) → t ≡ 4 → w ≡ 0 → decoded t w ≡ Some Nil
 unfolding decoded only
 nil-good t w p q = rw (p, q)
 
-place-small : (p : ℕ) → p < 65536 → place_number (place_read p) < 65536
-unfolding place_number place_read wait_place
-place-small p h = by (eqb p 1)
-  where
-    by : (b : Bool) → place_number (if b then ready else on (p - 2)) < 65536
-    by true = unfold place_number in omega arith
-    by false = unfold place_number wait_place in rw (lt-ltb (p - 2) 65534 (omega arith)) (omega arith)
-
-swapped : (a b : Bool) → (a && b) ≡ (b && a)
-swapped true true = refl
-swapped true false = refl
-swapped false true = refl
-swapped false false = refl
-
-module _ (tags words image : List ℕ) (g : Ground) (head word : ℕ) (h : head < 2 ^ 64) (l : word < 2 ^ 64) where
+module _ (g : Ground) (head word : ℕ) (h : head < 2 ^ 64) (l : word < 2 ^ 64) where
   abbrev place : ℕ
   place = head % 65536
 
@@ -91,7 +76,7 @@ module _ (tags words image : List ℕ) (g : Ground) (head word : ℕ) (h : head 
   frame = head / 4294967296 % 65536
 
   abbrev rest : Bool
-  rest = start image g.code position && place_on tags words g (place_read place)
+  rest = start g.image g.code position && place_on g (place_read place)
 
   abbrev written : Value → ℕ
   written v = packed (place_number (place_read place)) position frame (tag_of v)
@@ -101,30 +86,30 @@ module _ (tags words image : List ℕ) (g : Ground) (head word : ℕ) (h : head 
   judged v = eqb (written v) head && (eqb (word_of v) word && (leb frame 65535 && (well_formed v && rest)))
 
   good : (v : Value) → Stands tag word v → (b : Bool) → eqb place 0 ≡ b
-      → judged v ≡ ((if b then false else place_on tags words g (place_read place)) && start image g.code position)
+      → judged v ≡ ((if b then false else place_on g (place_read place)) && start g.image g.code position)
   good v s true e =
       let z = eqb-true place 0 e in
-      rw (ne_eqb (written v) head (other_place head _ (place-small place (omega arith)) (λ w. nowhere place z w) _ _ _))
+      rw (ne_eqb (written v) head (other_place head _ (place-small (place_read place)) (λ w. nowhere place z w) _ _ _))
   good v s false e =
       let n = eqb-false place 0 e in
       rw (s.tag, place-again place (omega arith) n, eq-eqb _ head (head-again head h), eq-eqb _ _ s.word, le-leb frame 65535 (omega arith), s.good)
-      (swapped (start image g.code position) (place_on tags words g (place_read place)))
+      (and_comm (start g.image g.code position) (place_on g (place_read place)))
 
-  bad : decoded tag word ≡ Malformed → (b d : Bool) → eqb (written Nil) head ≡ b → eqb 0 word ≡ d → (b && (d && (leb frame 65535 && rest))) ≡ false
+  bad : decoded tag word ≡ None → (b d : Bool) → eqb (written Nil) head ≡ b → eqb 0 word ≡ d → (b && (d && (leb frame 65535 && rest))) ≡ false
   unfolding tag_of
   bad e true true p q =
-      let t = tag-of-head head _ _ _ 4 (place-small place (omega arith)) (omega arith) (omega arith) (omega arith) (eqb-true _ head p) in
+      let t = tag-of-head head _ _ _ 4 (place-small (place_read place)) (omega arith) (omega arith) (omega arith) (eqb-true _ head p) in
       clash (cc (nil-good tag word (sym t) (sym (eqb-true 0 word q))))
   bad e true false p q = refl
   bad e false d p q = refl
 
-  by_value : (d : Decoded) → decoded tag word ≡ d
-      → judged (value_or d) ≡ (is_good d && (place_stands tags words g place && start image g.code position))
-  unfolding value_or is_good place_stands word_of well_formed
-  by_value (Good v) e = good v (encode-decode tag word v l e) (eqb place 0) refl
-  by_value Malformed e = bad e (eqb (written Nil) head) (eqb 0 word) refl refl
+  by_value : (d : Option Value) → decoded tag word ≡ d
+      → judged (unwrap_or d Nil) ≡ (is_some d && (place_stands g place && start g.image g.code position))
+  unfolding place_stands word_of well_formed
+  by_value (Some v) e = good v (encode-decode tag word v l e) (eqb place 0) refl
+  by_value None e = bad e (eqb (written Nil) head) (eqb 0 word) refl refl
 
   -- a record stands exactly if its accumulator is well formed, its place sound and its position a start
-  pub record_is : record_stands tags words g image head word ≡ (is_good (decoded tag word) && (place_stands tags words g place && start image g.code position))
+  pub record_is : record_stands g head word ≡ (is_some (decoded tag word) && (place_stands g place && start g.image g.code position))
   unfolding record_stands stands head_number head_of acc_number live_read thread_in live_on
   record_is = by_value (decoded tag word) refl

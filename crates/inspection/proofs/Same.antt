@@ -2,19 +2,19 @@
 use Prim.Native.Nat.{ℕ, zero, suc, ◌≤◌, ◌<◌}
 use native.Mathlib.Omega.{arith}
 use mathlib.Core.Path.{◌≡◌, refl, sym, ap, ◌∙◌}
-use mathlib.Core.Bool.{Bool, true, false}
+use mathlib.Core.Bool.{Bool, true, false, ◌&&◌}
 use mathlib.Core.List.{List, [], ◌∷◌}
 use lib.Dec.{leb, ltb, eqb}
 use lib.ListN.{length, get_or, take, drop}
 use borrow.Author.Tests.{eqb-true, eqb-false, eq-eqb, leb-true, le-leb, ltb-true, lt-ltb}
+use Rattle.std.specs.Prelude.{Ok, Err}
 use Rattle.laws.specs.Lists.{all, is_none}
 use Rattle.laws.proofs.Absurd.{clash}
 use Rattle.laws.proofs.Choice.{chosen, tested, both, parted}
 use Rattle.laws.proofs.Every as Every
-use Rattle.image.specs.declared.reader.Verdict.{Verdict}
-use Rattle.image.specs.declared.reader.Verdict.TheVariants.{TooLong, BadAt, Good}
-use Rattle.image.specs.Records.{head_at}
-use Rattle.image.specs.Reading.{read_image, read_first}
+use Rattle.image.specs.declared.reader.Layout.{Layout}
+use Rattle.image.specs.Records.{whole_at}
+use Rattle.image.specs.Reading.{Verdict, read_image, read_first}
 use Rattle.rules.specs.Claim.{Cell, Live}
 use Rattle.rules.specs.Turn.{code_of}
 use Rattle.rules.specs.Sound.{cell_sound, live_sound, refusal_sound, claim_sound, is_bare, seat_sound}
@@ -24,9 +24,10 @@ use Rattle.book.specs.declared.Tally.{Tally}
 use Rattle.book.specs.Book.{tally_in}
 use Rattle.laying.specs.Laid.{Parts, cell_tag, cell_word, head_number, acc_number}
 use Rattle.laying.specs.Back.{unspread, canonical, cell_read, live_read, claim_in, well_laid}
+use Rattle.laying.proofs.Fits.{none_is}
 use Rattle.laying.proofs.Pairs.{Written, back}
 use Rattle.inspection.specs.Sound.{sound_on}
-use Rattle.inspection.specs.Tests.{held, live_on, store_stands, row_stands, refusal_stands, numbers_stand, accepted_stands, ground, claim_stands, is_idle, parts_bare, vacant_stands, lengths_stand, image_stands, seat_stands, test_on}
+use Rattle.inspection.specs.Tests.{held, live_on, store_stands, row_stands, refusal_stands, numbers_stand, accepted_stands, ground, claim_stands, is_idle, parts_bare, vacant_stands, lengths_stand, image_stands, cut, seat_stands, test_on}
 use Rattle.inspection.proofs.Claims.{live_same, refusal-same}
 
 -- two tests, each of which holds where the other does, come out the same
@@ -34,10 +35,6 @@ same_test : (a b : Bool) → (a ≡ true → b ≡ true) → (b ≡ true → a �
 same_test true b f g = sym (f refl)
 same_test false true f g = g refl
 same_test false false f g = refl
-
-none_is : {A : Type 0} (xs : List A) → is_none xs ≡ true → length xs ≡ 0
-none_is [] e = refl
-none_is (x ∷ xs) e = clash (cc)
 
 some-taken : (k : ℕ) (s : List ℕ) → (k ≡ 0 → ⊥) → k ≤ length s → is_none (take k s) ≡ false
 some-taken zero s n h = absurd (n refl)
@@ -50,7 +47,7 @@ unfolding image_stands
 room k s e = parted (leb k (length s)) _ e λ h _. leb-true k (length s) h
 
 no_code : code_of (read_image []) ≡ 0
-unfolding code_of read_image read_first head_at
+unfolding code_of read_image read_first whole_at
 no_code = refl
 
 module _ (start : ℕ) (p : Parts) where
@@ -182,7 +179,7 @@ module _ (start : ℕ) (p : Parts) where
 
     -- the threads' test, by the parts and by the claim
     rows_same : all cell_sound Cells ≡ true
-        → live_on p.tags p.words (ground Tallied start) (take long p.image) ≡ live_sound (claim_in start p) code
+        → live_on (ground Tallied start (cut long p)) ≡ live_sound (claim_in start p) code
     unfolding claim_in tally_in
     rows_same s = live_same (claim_in start p) used p.tags p.words cells-back (Every.tested cell_sound Cells s) used-tags used-words code
 
@@ -210,7 +207,7 @@ module _ (start : ℕ) (p : Parts) where
     accs : all is_zero p.accs ≡ true
     image : all is_zero p.image ≡ true
 
-  vacant : vacant_stands Tallied p.tags p.words p.heads p.accs p.image ≡ true → Vacant
+  vacant : vacant_stands Tallied p ≡ true → Vacant
   unfolding vacant_stands parts_bare is_idle tally_in
   vacant e =
       parted (is_idle Tallied) _ e λ idle e.
@@ -237,7 +234,7 @@ module _ (start : ℕ) (p : Parts) where
         image = image;
       }
 
-  vacant-stands : Vacant → vacant_stands Tallied p.tags p.words p.heads p.accs p.image ≡ true
+  vacant-stands : Vacant → vacant_stands Tallied p ≡ true
   unfolding vacant_stands parts_bare is_idle tally_in
   vacant-stands v =
       both (both (eq-eqb _ 0 v.code) (both (eq-eqb _ 0 v.used) (both (eq-eqb _ 0 v.live)
@@ -272,8 +269,8 @@ module _ (start : ℕ) (p : Parts) where
       parted (is_none Row) _ e λ row e.
       parted (eqb (get_or p.book 6 0) 0) _ e λ refusal e.
       parted (eqb (get_or p.book 7 0) 0) _ e λ halted steps.
-      let u : used ≡ 0 = sym (cells-back l).long ∙ none_is Cells cells in
-      let t : live ≡ 0 = sym (row_back l).long ∙ none_is Row row in
+      let u : used ≡ 0 = sym (cells-back l).long ∙ ap length (none_is Cells cells) in
+      let t : live ≡ 0 = sym (row_back l).long ∙ ap length (none_is Row row) in
       parted (all is_zero p.tags) (all is_zero p.words) (rw u at l.cells) λ tags words.
       parted (all is_zero p.heads) (all is_zero p.accs) (rw t at l.row) λ heads accs.
       record {
@@ -296,14 +293,14 @@ module _ (start : ℕ) (p : Parts) where
   Own = take long p.image
 
   abbrev claimed : Tally → Bool
-  claimed n = claim_stands n start p.tags p.words p.heads p.accs Own
+  claimed n = claim_stands n start (cut long p)
 
   -- what both tests say of its image and of its book
   record Booked : Type 0 where
-    r : ℕ
-    inputs : ℕ
-    reads : read_image Own ≡ Good r inputs code
-    slots : r ≤ used
+    layout : Layout
+    reads : read_image Own ≡ Ok layout
+    entry : code ≡ layout.code
+    slots : layout.slots ≤ used
     within : used ≤ share
     room : live ≤ threads
     few : live ≤ 32
@@ -325,19 +322,17 @@ module _ (start : ℕ) (p : Parts) where
   booked a = by (read_image Own) refl a
     where
       by : (v : Verdict) → read_image Own ≡ v → accepted_stands Tallied v ≡ true → Booked
-      by TooLong e a = unfold accepted_stands in clash (cc)
-      by (BadAt q) e a = unfold accepted_stands in clash (cc)
-      by (Good r i d) e a = unfold accepted_stands numbers_stand tally_in in
-          parted (eqb code d) _ a λ same a.
-          parted (leb r used) _ a λ slots a.
+      by (Err f) e a = unfold accepted_stands in clash (cc)
+      by (Ok g) e a = unfold accepted_stands numbers_stand tally_in in
+          parted (eqb code g.code) _ a λ same a.
+          parted (leb g.slots used) _ a λ slots a.
           parted (leb used share) _ a λ within a.
           parted (leb live threads) _ a λ room a.
           parted (leb live 32) _ a λ few steps.
-          let k = eqb-true code d same in
           record {
-            r = r;
-            inputs = i;
-            reads = e ∙ rw k;
+            layout = g;
+            reads = e;
+            entry = eqb-true _ _ same;
             slots = leb-true _ _ slots;
             within = leb-true _ _ within;
             room = leb-true _ _ room;
@@ -349,7 +344,7 @@ module _ (start : ℕ) (p : Parts) where
   unfolding accepted_stands numbers_stand tally_in
   book-stands b =
       rw b.reads
-      (both (eq-eqb code code refl) (both (le-leb _ _ b.slots) (both (le-leb _ _ b.within)
+      (both (eq-eqb _ _ b.entry) (both (le-leb _ _ b.slots) (both (le-leb _ _ b.within)
       (both (le-leb _ _ b.room) (both (le-leb _ _ b.few) (lt-ltb _ _ b.steps))))))
 
   -- the code's test of such a claim, taken apart, and put together again
@@ -361,15 +356,15 @@ module _ (start : ℕ) (p : Parts) where
         parted (accepted_stands Tallied (read_image Own)) _ e λ accepted e.
         parted (all (λ b. ltb b 256) Own) _ e λ bytes e.
         parted (store_stands used p.tags p.words) _ e λ store e.
-        parted (row_stands p.tags p.words (ground Tallied start) Own live p.heads p.accs) _ e λ lives refusal.
+        parted (row_stands (ground Tallied start (cut long p)) live p.heads p.accs) _ e λ lives refusal.
         parted (canonical cell_tag cell_word cell_read used p.tags p.words) (all cell_sound Cells) store λ store cells.
-        parted (canonical head_number acc_number live_read live p.heads p.accs) (all (live_on p.tags p.words (ground Tallied start) Own) Row) lives λ lives row.
+        parted (canonical head_number acc_number live_read live p.heads p.accs) (all (live_on (ground Tallied start (cut long p))) Row) lives λ lives row.
         let b = booked accepted in
         let l : Laid = record {
           lens = n;
           short = rw n.image at (leb-true long (length p.image) short);
           bare = bare;
-          entry = sym (ap code_of b.reads);
+          entry = b.entry ∙ sym (ap code_of b.reads);
           within = b.within;
           few = b.few;
           cells = store;
@@ -401,21 +396,21 @@ module _ (start : ℕ) (p : Parts) where
     unfolding seat_sound claim_sound claim_in
     used_sound u =
         let b = u.book in
-        rw (some-image, b.reads)
-        (both u.bytes (both (le-leb b.r (length Cells) (rw (cells-back l).long b.slots)) (both (le-leb (length Cells) share (rw (cells-back l).long b.within))
+        rw (some-image, b.reads, ← b.entry)
+        (both u.bytes (both (le-leb b.layout.slots (length Cells) (rw (cells-back l).long b.slots)) (both (le-leb (length Cells) share (rw (cells-back l).long b.within))
         (both u.cells (both u.row (both (le-leb (length Row) threads (rw (row_back l).long b.room)) (both u.refusal (lt-ltb _ _ b.steps))))))))
 
     in_use : seat_sound (claim_in start p) ≡ true → Used
     unfolding claim_in code_of
     in_use s =
         let i = used-seat (claim_in start p) some-image s in
-        let d : code ≡ i.code = l.entry ∙ ap code_of i.reads in
+        let d : code ≡ i.layout.code = l.entry ∙ ap code_of i.reads in
         let o = i.sound in
         record {
           book = record {
-            r = i.r;
-            inputs = i.n;
-            reads = i.reads ∙ rw d;
+            layout = i.layout;
+            reads = i.reads;
+            entry = d;
             slots = rw (cells-back l).long at o.slots;
             within = l.within;
             room = rw (row_back l).long at o.live;
@@ -424,7 +419,7 @@ module _ (start : ℕ) (p : Parts) where
           };
           bytes = o.bytes;
           cells = Every.passes cell_sound o.cells;
-          row = rw d (Every.passes (live_sound (claim_in start p) i.code) (Every.all-also (stands-sound (claim_in start p) i.code) o.row));
+          row = rw d (Every.passes (live_sound (claim_in start p) i.layout.code) (Every.all-also (stands-sound (claim_in start p) i.layout.code) o.row));
           refusal = o.refusal;
         }
 
@@ -459,5 +454,7 @@ module _ (start : ℕ) (p : Parts) where
           let k = eqb-false long 0 z in
           rw z (both (both (le-leb long (length p.image) (rw l.lens.image l.short)) l.bare) (laid-stands l (in_use k l s)))
 
-  pub test-sound : test_on start p ≡ sound_on start p
-  test-sound = same_test (test_on start p) (sound_on start p) held_up borne-out
+  -- the definition, in the code's order
+  pub sound_is : sound_on start p ≡ (lengths_stand p && seat_stands start Tallied p)
+  unfolding test_on
+  sound_is = same_test (sound_on start p) (test_on start p) borne-out held_up

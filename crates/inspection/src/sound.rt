@@ -1,200 +1,163 @@
 // Whether a seat's parts of the lent buffers are those of a sound claim: every clause of document 01, and zero wherever nothing is held.
-ghost use Rattle.std.specs.Prelude.{◌≡◌, ◌/◌, ◌%◌};
+ghost use Rattle.std.specs.Prelude.{◌≡◌, ◌/◌, ◌%◌, ℕ, Bool, length};
 ghost use Rattle.rules.specs.Sound.{is_empty};
-ghost use Rattle.laying.specs.Laid.{parts};
+ghost use Rattle.inspection.specs.Seats.{parts_of, ground_of};
 ghost use Rattle.inspection.specs.Sound.{sound_on};
 ghost use Rattle.inspection.specs.Tests as Tests;
 
 use book::Tally;
-use image::reader::Verdict;
+use cells::Cells;
+use image::reader::{Fault, Layout};
 use image::{reader, starts};
-use lent::{get32, get64, is_bare8, is_bare16, is_bare64, is_bytes};
+use lent::{Zero, get, is_bare, is_bytes};
 use rules::Slot;
+use threads::{Placed, low16};
 use value::coding;
-use value::coding::Decoded;
 
-// What the threads of a claim stand on: cells used, the region's start, the start of the code.
+// A seat's parts of the lent buffers.
 #[derive(Clone, Copy)]
-pub struct Ground {
-    pub used: u32,
-    pub start: u32,
-    pub code: u32,
+pub struct Seat<'a> {
+    pub book: &'a [u32],
+    pub tags: &'a [u16],
+    pub words: &'a [u64],
+    pub heads: &'a [u64],
+    pub accs: &'a [u64],
+    pub image: &'a [u8],
 }
 
-#[tactic(auto, unfolding(crate::specs::Tests::is_good))]
-fn is_good(d: Decoded) -> bool
-    ensures { result ≡ Tests.is_good d }
-{
-    match d {
-        Decoded::Good(_) => true,
-        Decoded::Malformed => false,
+// What the threads of a claim stand on: its cells, its image, and where its code starts.
+#[derive(Clone, Copy)]
+struct Ground<'a> {
+    cells: Cells<'a>,
+    image: &'a [u8],
+    code: u32,
+}
+
+// A test of two numbers that stand for an element.
+trait Judge<T> {
+    ghost passes: { Self → T → ℕ → Bool };
+
+    fn passes(&self, number: T, word: u64) -> bool
+        ensures { result ≡ passes self.now number word };
+}
+
+// A cell is judged by its tag and its word alone.
+struct Alone;
+
+impl Judge<u16> for Alone {
+    ghost passes = { λ _. Tests.cell_stands };
+
+    fn passes(&self, tag: u16, word: u64) -> bool {
+        cell_stands(tag, word)
     }
 }
 
-// A cell's tag and word: an empty cell's word is 0, a full one's value is well formed, and no other bit is set.
-fn cell_stands(tag: u16, word: u64) -> bool
-    ensures { result ≡ Tests.cell_stands tag word }
-{
-    if 16 <= tag {
-        return false;
+// A thread's record by what the threads stand on.
+impl<'a> Judge<u64> for Ground<'a> {
+    ghost passes = { λ g. Tests.record_stands (ground_of g) };
+
+    fn passes(&self, head: u64, word: u64) -> bool {
+        record_stands(*self, head, word)
     }
-    if tag % 8 == 0 {
-        return word == 0;
-    }
-    is_good(coding::decode(tag % 8, word))
 }
 
-fn cells_stand(tags: &[u16], words: &[u64]) -> bool
-    ensures { result ≡ Tests.each_pair Tests.cell_stands tags.now words.now }
+// Two lists of one length, whose pairs all pass.
+fn each_passes<T: Copy, J: Judge<T>>(judge: &J, numbers: &[T], words: &[u64]) -> bool
+    requires { length words.now ≡ length numbers.now }
+    ensures { result ≡ Tests.each_pair (J.passes judge.now) numbers.now words.now }
 {
-    let n = tags.len();
-    if words.len() != n {
-        return false;
-    }
-    let mut i: usize = 0;
-    while i < n {
-        if !cell_stands(tags[i], words[i]) {
+    for (number, word) in numbers.iter().zip(words) {
+        if !judge.passes(*number, *word) {
             return false;
         }
-        i += 1;
     }
     true
 }
 
-// The used cells, and the rest bare.
-#[tactic(auto, unfolding(crate::specs::Tests::cell_stands, crate::specs::Tests::store_stands))]
-fn store_stands(tags: &[u16], words: &[u64], used: u32) -> bool
-    ensures { result ≡ Tests.store_stands used tags.now words.now }
+// The first k pairs pass, and the rest are bare.
+#[tactic(auto, unfolding(crate::specs::Tests::held_by))]
+fn held<T: Zero, J: Judge<T>>(judge: &J, numbers: &[T], words: &[u64], k: u32) -> bool
+    ensures { result ≡ Tests.held_by T.is_zero (J.passes judge.now) k numbers.now words.now }
 {
-    let k = used as usize;
-    let n = tags.len();
-    if n < k {
-        return false;
-    }
-    if words.len() < k {
-        return false;
-    }
-    if !cells_stand(&tags[..k], &words[..k]) {
-        return false;
-    }
-    if !is_bare16(&tags[k..]) {
-        return false;
-    }
-    is_bare64(&words[k..])
+    let k = k as usize;
+    k <= numbers.len()
+        && k <= words.len()
+        && each_passes(judge, &numbers[..k], &words[..k])
+        && is_bare(&numbers[k..])
+        && is_bare(&words[k..])
+}
+
+// A cell's tag and word: an empty cell's word is 0, a full one's value is well formed, and no other bit is set.
+#[tactic(auto, using(crate::proofs::Cells::cell_is))]
+fn cell_stands(tag: u16, word: u64) -> bool
+    ensures { result ≡ Tests.cell_stands tag word }
+{
+    let kept = tag % 8;
+    tag < 16
+        && if kept == 0 {
+            word == 0
+        } else {
+            coding::decode(kept, word).is_some()
+        }
+}
+
+// The used cells, and the rest bare.
+#[tactic(auto, using(crate::proofs::Pairs::store_is))]
+fn store_stands(cells: Cells) -> bool
+    ensures { result ≡ Tests.store_stands cells.entry.used cells.entry.tags.now cells.entry.words.now }
+{
+    held(&Alone, cells.tags, cells.words, cells.used)
 }
 
 #[tactic(auto, unfolding(rules::specs::Sound::is_empty))]
 fn is_empty(s: Slot) -> bool
     ensures { result ≡ is_empty s }
 {
-    match s {
-        Slot::Missing => false,
-        Slot::Empty(_) => true,
-        Slot::Full(_, _) => false,
-    }
+    matches!(s, Slot::Empty(_))
 }
 
 // A thread's place: ready, or waiting on an empty cell of the seat.
 #[tactic(auto, unfolding(crate::specs::Tests::place_on, crate::specs::Tests::place_stands, laying::specs::Back::place_read))]
-fn place_stands(tags: &[u16], words: &[u64], g: Ground, place: u16) -> bool
-    ensures { result ≡ Tests.place_stands tags.now words.now g place }
+fn place_stands(ground: Ground, place: u16) -> bool
+    ensures { result ≡ Tests.place_stands (ground_of ground.entry) place }
 {
-    if place == 0 {
-        return false;
+    match place {
+        0 => false,
+        1 => true,
+        _ => is_empty(ground.cells.look(place as usize - 2)),
     }
-    if place == 1 {
-        return true;
-    }
-    let used = g.used;
-    let start = g.start;
-    is_empty(cells::look(tags, words, used, start, place as usize - 2))
-}
-
-fn place_of(head: u64) -> u16
-    ensures { result ≡ head % 65536 }
-{
-    (head % 65536) as u16
 }
 
 // A head's position.
 pub fn position_of(head: u64) -> u16
     ensures { result ≡ head / 65536 % 65536 }
 {
-    (head / 65536 % 65536) as u16
+    low16(head / 65536)
 }
 
 fn tag_of(head: u64) -> u16
     ensures { result ≡ head / 281474976710656 % 65536 }
 {
-    (head / 281474976710656 % 65536) as u16
+    low16(head / 281474976710656)
 }
 
 // A thread's record: its accumulator well formed, its place sound, its position an instruction's start.
-fn record_stands(tags: &[u16], words: &[u64], image: &[u8], g: Ground, head: u64, word: u64) -> bool
-    ensures { result ≡ Tests.record_stands tags.now words.now g image.now head word }
+#[tactic(auto, using(crate::proofs::Heads::record_is))]
+fn record_stands(ground: Ground, head: u64, word: u64) -> bool
+    ensures { result ≡ Tests.record_stands (ground_of ground.entry) head word }
 {
-    if !is_good(coding::decode(tag_of(head), word)) {
-        return false;
-    }
-    if !place_stands(tags, words, g, place_of(head)) {
-        return false;
-    }
-    let code = g.code;
-    let position = position_of(head);
-    starts::is_start(image, code, position)
-}
-
-fn records_stand(
-    heads: &[u64],
-    accs: &[u64],
-    tags: &[u16],
-    words: &[u64],
-    image: &[u8],
-    g: Ground,
-) -> bool
-    ensures { result ≡ Tests.each_pair (Tests.record_stands tags.now words.now g image.now) heads.now accs.now }
-{
-    let n = heads.len();
-    if accs.len() != n {
-        return false;
-    }
-    let mut i: usize = 0;
-    while i < n {
-        if !record_stands(tags, words, image, g, heads[i], accs[i]) {
-            return false;
-        }
-        i += 1;
-    }
-    true
+    let acc = coding::decode(tag_of(head), word);
+    acc.is_some()
+        && place_stands(ground, head.place())
+        && starts::is_start(ground.image, ground.code, position_of(head))
 }
 
 // The live threads, and the rest bare.
-#[tactic(auto, unfolding(crate::specs::Tests::record_stands, crate::specs::Tests::row_stands))]
-fn row_stands(
-    heads: &[u64],
-    accs: &[u64],
-    live: u32,
-    tags: &[u16],
-    words: &[u64],
-    image: &[u8],
-    g: Ground,
-) -> bool
-    ensures { result ≡ Tests.row_stands tags.now words.now g image.now live heads.now accs.now }
+#[tactic(auto, using(crate::proofs::Pairs::row_is))]
+fn row_stands(ground: Ground, live: u32, heads: &[u64], accs: &[u64]) -> bool
+    ensures { result ≡ Tests.row_stands (ground_of ground.entry) live heads.now accs.now }
 {
-    let k = live as usize;
-    if heads.len() < k {
-        return false;
-    }
-    if accs.len() < k {
-        return false;
-    }
-    if !records_stand(&heads[..k], &accs[..k], tags, words, image, g) {
-        return false;
-    }
-    if !is_bare64(&heads[k..]) {
-        return false;
-    }
-    is_bare64(&accs[k..])
+    held(&ground, heads, accs, live)
 }
 
 // No refusal and no refused thread, or a refusal of 1 to 9 and a ready thread.
@@ -202,85 +165,55 @@ fn row_stands(
 fn refusal_stands(n: Tally, heads: &[u64]) -> bool
     ensures { result ≡ Tests.refusal_stands n heads.now }
 {
-    let halted = n.halted;
     if n.refusal == 0 {
-        return halted == 0;
+        return n.halted == 0;
     }
-    if 9 < n.refusal {
-        return false;
-    }
-    if n.live <= halted {
-        return false;
-    }
-    place_of(get64(heads, halted as usize)) == 1
+    n.refusal <= 9 && n.halted < n.live && get(heads, n.halted as usize, 0).place() == 1
 }
 
 // The numbers of the book, beside the reader's: slots of the root frame, and the start of the code.
 #[tactic(auto, unfolding(crate::specs::Tests::numbers_stand))]
-fn numbers_stand(n: Tally, slots: u8, code: usize) -> bool
-    ensures { result ≡ Tests.numbers_stand n slots code }
+fn numbers_stand(n: Tally, g: Layout) -> bool
+    ensures { result ≡ Tests.numbers_stand n g }
 {
-    let start = n.code as usize;
-    if start != code {
-        return false;
-    }
-    if n.used < slots as u32 {
-        return false;
-    }
-    if n.cells < n.used {
-        return false;
-    }
-    if n.threads < n.live {
-        return false;
-    }
-    n.live <= 32
+    n.code as usize == g.code
+        && u32::from(g.slots) <= n.used
+        && n.used <= n.cells
+        && n.live <= n.threads
+        && n.live <= 32
 }
 
 #[tactic(auto, unfolding(crate::specs::Tests::accepted_stands))]
-fn accepted_stands(n: Tally, v: Verdict) -> bool
-    ensures { result ≡ Tests.accepted_stands n v }
+fn accepted_stands(n: Tally, read: Result<Layout, Fault>) -> bool
+    ensures { result ≡ Tests.accepted_stands n read }
 {
-    match v {
-        Verdict::TooLong => false,
-        Verdict::BadAt(_) => false,
-        Verdict::Good {
-            slots,
-            inputs: _,
-            code,
-        } => numbers_stand(n, slots, code),
+    match read {
+        Ok(g) => numbers_stand(n, g),
+        Err(_) => false,
     }
 }
 
-// A claim in use, over its own image.
+// A claim in use: the seat's image is cut to its length.
 #[tactic(auto, unfolding(crate::specs::Tests::claim_stands))]
-fn claim_stands(
-    n: Tally,
-    start: u32,
-    tags: &[u16],
-    words: &[u64],
-    heads: &[u64],
-    accs: &[u64],
-    image: &[u8],
-) -> bool
-    ensures { result ≡ Tests.claim_stands n start tags.now words.now heads.now accs.now image.now }
+fn claim_stands(n: Tally, start: u32, seat: Seat) -> bool
+    ensures { result ≡ Tests.claim_stands n start (parts_of seat.entry) }
 {
-    if !accepted_stands(n, reader::read(image)) {
-        return false;
-    }
-    if !is_bytes(image) {
-        return false;
-    }
-    let used = n.used;
-    if !store_stands(tags, words, used) {
-        return false;
-    }
-    let live = n.live;
-    let code = n.code;
-    let g = Ground { used, start, code };
-    if !row_stands(heads, accs, live, tags, words, image, g) {
-        return false;
-    }
-    refusal_stands(n, heads)
+    let cells = Cells {
+        tags: seat.tags,
+        words: seat.words,
+        used: n.used,
+        start,
+    };
+    let ground = Ground {
+        cells,
+        image: seat.image,
+        code: n.code,
+    };
+    accepted_stands(n, reader::read(seat.image))
+        && is_bytes(seat.image)
+        && store_stands(cells)
+        && row_stands(ground, n.live, seat.heads, seat.accs)
+        && refusal_stands(n, seat.heads)
 }
 
 // A book with nothing but its shares; the image's length is tested before.
@@ -288,91 +221,41 @@ fn claim_stands(
 fn is_idle(n: Tally) -> bool
     ensures { result ≡ Tests.is_idle n }
 {
-    if n.code != 0 {
-        return false;
-    }
-    if n.used != 0 {
-        return false;
-    }
-    if n.live != 0 {
-        return false;
-    }
-    if n.refusal != 0 {
-        return false;
-    }
-    if n.halted != 0 {
-        return false;
-    }
-    n.steps == 0
+    n.code == 0 && n.used == 0 && n.live == 0 && n.refusal == 0 && n.halted == 0 && n.steps == 0
 }
 
 // Every part but the book is bare.
 #[tactic(auto, unfolding(crate::specs::Tests::parts_bare))]
-pub fn parts_bare(tags: &[u16], words: &[u64], heads: &[u64], accs: &[u64], image: &[u8]) -> bool
-    ensures { result ≡ Tests.parts_bare tags.now words.now heads.now accs.now image.now }
+pub fn parts_bare(seat: Seat) -> bool
+    ensures { result ≡ Tests.parts_bare (parts_of seat.entry) }
 {
-    if !is_bare16(tags) {
-        return false;
-    }
-    if !is_bare64(words) {
-        return false;
-    }
-    if !is_bare64(heads) {
-        return false;
-    }
-    if !is_bare64(accs) {
-        return false;
-    }
-    is_bare8(image)
+    is_bare(seat.tags)
+        && is_bare(seat.words)
+        && is_bare(seat.heads)
+        && is_bare(seat.accs)
+        && is_bare(seat.image)
 }
 
 // A vacant seat: nothing but its shares.
 #[tactic(auto, unfolding(crate::specs::Tests::vacant_stands))]
-fn vacant_stands(
-    n: Tally,
-    tags: &[u16],
-    words: &[u64],
-    heads: &[u64],
-    accs: &[u64],
-    image: &[u8],
-) -> bool
-    ensures { result ≡ Tests.vacant_stands n tags.now words.now heads.now accs.now image.now }
+fn vacant_stands(n: Tally, seat: Seat) -> bool
+    ensures { result ≡ Tests.vacant_stands n (parts_of seat.entry) }
 {
-    if !is_idle(n) {
-        return false;
-    }
-    parts_bare(tags, words, heads, accs, image)
+    is_idle(n) && parts_bare(seat)
 }
 
 // Each part has its length.
 #[tactic(auto, unfolding(crate::specs::Tests::lengths_stand))]
-fn lengths_stand(
-    book: &[u32],
-    tags: &[u16],
-    words: &[u64],
-    heads: &[u64],
-    accs: &[u64],
-    image: &[u8],
-) -> bool
-    ensures { result ≡ Tests.lengths_stand (parts book.now tags.now words.now heads.now accs.now image.now) }
+fn lengths_stand(seat: Seat) -> bool
+    ensures { result ≡ Tests.lengths_stand (parts_of seat.entry) }
 {
-    if book.len() != 9 {
-        return false;
-    }
-    let share = get32(book, 0) as usize;
-    if tags.len() != share {
-        return false;
-    }
-    if words.len() != share {
-        return false;
-    }
-    if heads.len() != 32 {
-        return false;
-    }
-    if accs.len() != 32 {
-        return false;
-    }
-    image.len() == 4096
+    let share = get(seat.book, 0, 0) as usize;
+    seat.book.len() == 9
+        && seat.tags.len() == share
+        && seat.words.len() == share
+        && seat.heads.len() == 32
+        && seat.accs.len() == 32
+        && seat.image.len() == 4096
 }
 
 // The image has room for that length, and zeros behind it.
@@ -381,37 +264,28 @@ fn image_stands(length: u32, image: &[u8]) -> bool
     ensures { result ≡ Tests.image_stands length image.now }
 {
     let k = length as usize;
-    let n = image.len();
-    if n < k {
+    k <= image.len() && is_bare(&image[k..])
+}
+
+// A seat whose parts have their lengths, by the numbers of its book.
+#[tactic(auto, unfolding(crate::specs::Tests::image_stands, crate::specs::Tests::seat_stands))]
+fn seat_stands(n: Tally, seat: Seat, start: u32) -> bool
+    ensures { result ≡ Tests.seat_stands start n (parts_of seat.entry) }
+{
+    if n.length == 0 {
+        return vacant_stands(n, seat);
+    }
+    if !image_stands(n.length, seat.image) {
         return false;
     }
-    is_bare8(&image[k..])
+    let image = &seat.image[..n.length as usize];
+    claim_stands(n, start, Seat { image, ..seat })
 }
 
 // Any lengths and any contents: whether they are the parts of a sound claim, whose region starts at `start`.
-#[tactic(auto, unfolding(crate::specs::Tests::seat_stands, crate::specs::Tests::test_on))]
-pub fn seat_sound(
-    book: &[u32],
-    tags: &[u16],
-    words: &[u64],
-    heads: &[u64],
-    accs: &[u64],
-    image: &[u8],
-    start: u32,
-) -> bool
-    ensures { result ≡ sound_on start (parts book.now tags.now words.now heads.now accs.now image.now) }
+#[tactic(auto, using(crate::proofs::Same::sound_is))]
+pub fn seat_sound(seat: Seat, start: u32) -> bool
+    ensures { result ≡ sound_on start (parts_of seat.entry) }
 {
-    if !lengths_stand(book, tags, words, heads, accs, image) {
-        return false;
-    }
-    let n = book::read_book(book);
-    let length = n.length;
-    if length == 0 {
-        return vacant_stands(n, tags, words, heads, accs, image);
-    }
-    if !image_stands(length, image) {
-        return false;
-    }
-    let k = length as usize;
-    claim_stands(n, start, tags, words, heads, accs, &image[..k])
+    lengths_stand(seat) && seat_stands(book::read_book(seat.book), seat, start)
 }

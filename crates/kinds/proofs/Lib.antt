@@ -4,4 +4,3 @@ pub mod Names
 pub mod Operands
 pub mod Meant
 pub mod Onward
-pub mod Front

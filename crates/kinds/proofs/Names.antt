@@ -3,13 +3,14 @@ use Prim.Native.Nat.{ℕ}
 use Prim.Native.String.{String}
 use mathlib.Core.Path.{◌≡◌, refl}
 use mathlib.Core.List.{[], ◌∷◌, map}
-use Rattle.kinds.specs.declared.Meaning.{Meaning}
+use Rattle.std.specs.Prelude.{Option}
+use Rattle.kinds.specs.declared.Instruction.{Instruction}
 use Rattle.kinds.specs.Table.{Kind, instructions}
 
-abbrev name_of : Kind Meaning → String
+abbrev name_of : Kind (Option Instruction) → String
 name_of k = k.name
 
-abbrev size_of : Kind Meaning → ℕ
+abbrev size_of : Kind (Option Instruction) → ℕ
 size_of k = k.size
 
 pub names :

@@ -1,20 +1,20 @@
 -- A thread goes on from every instruction but END, SWITCH, SPAWN and APPLY. Assumes nothing.
-use Prim.Native.Nat.{ℕ, ◌<◌, ◌≤◌, zero-le}
+use Prim.Native.Nat.{ℕ, ◌<◌, ◌≤◌}
 use mathlib.Core.Path.{◌≡◌, refl, sym, subst}
 use mathlib.Core.Bool.{Bool, true, false}
 use mathlib.Core.Logic.{⊎_elim}
-use mathlib.Core.List.{List, [], ◌∷◌}
+use mathlib.Core.List.{List}
 use lib.Dec.{T, leb, eqb}
-use lib.Ieee.{binary64, of_bits}
-use lib.Ieee.Scale.{finite}
+use lib.Ieee.{Float}
 use Rattle.std.specs.Prelude.{if◌then◌else◌}
-use Rattle.laws.proofs.Arms.{NoneOf, between, ranged, below_or_not}
+use Rattle.std.specs.Option.{option_map}
+use Rattle.value.specs.Coding.{float_in}
+use Rattle.laws.proofs.Arms.{between, below_or_not}
 use Rattle.kinds.specs.declared.Instruction.{Instruction}
 use Rattle.kinds.specs.declared.Instruction.TheVariants as I
 use Rattle.kinds.specs.declared.Flow.{Flow}
 use Rattle.kinds.specs.declared.Flow.TheVariants.{On, Stops, Jumps, Forks}
-use Rattle.kinds.specs.declared.Meaning.{Meaning}
-use Rattle.kinds.specs.declared.Meaning.TheVariants.{Is, Broken}
+use Rattle.std.specs.Prelude.{Option, Some, None}
 use Rattle.kinds.specs.Bytes.{byte_in, word_in}
 use Rattle.kinds.specs.Flows.{flow_of}
 use Rattle.kinds.specs.Table.{instructions, instruction_kind, float_means, truth_means, frame_means}
@@ -32,18 +32,19 @@ is-on Stops t = absurd t
 is-on (Jumps a b) t = absurd t
 is-on (Forks a) t = absurd t
 
-abbrev onward : Meaning → Bool
-onward (Is i) = is_on (flow_of i)
-onward Broken = true
+abbrev onward : Option Instruction → Bool
+onward (Some i) = is_on (flow_of i)
+onward None = true
 
 -- a row with a rule
-ruled : (t : Bool) (i : Instruction) → is_on (flow_of i) ≡ true → onward (if t then Is i else Broken) ≡ true
+ruled : (t : Bool) (i : Instruction) → is_on (flow_of i) ≡ true → onward (if t then Some i else None) ≡ true
 ruled true i e = e
 ruled false i e = refl
 
-float-on : (word : ℕ) → onward (float_means word) ≡ true
-unfolding float_means flow_of
-float-on word = ruled (finite (of_bits binary64 word)) (I.Float (of_bits binary64 word)) refl
+float-on : (o : Option Float) → onward (option_map I.Float o) ≡ true
+unfolding flow_of
+float-on (Some x) = refl
+float-on None = refl
 
 truth-on : (byte : ℕ) → onward (truth_means byte) ≡ true
 unfolding truth_means flow_of
@@ -54,12 +55,12 @@ unfolding frame_means flow_of
 frame_on n = ruled (leb 1 n) (I.Frame n) refl
 
 module _ (k : ℕ) (body : List ℕ) where
-  below : NoneOf ((0 ∷ []) ∷ []) k → k < 23 → T (onward ((instruction_kind k).means body))
-  unfolding instruction_kind instructions flow_of
-  below o h =
-      ranged (λ k. onward ((instruction_kind k).means body)) ((0 ∷ []) ∷ []) 0 23
-      (rw (float-on (word_in body), truth-on (byte_in body 0), frame_on (byte_in body 0)) tt)
-      k o zero-le h
+  below : 1 ≤ k → k < 23 → T (onward ((instruction_kind k).means body))
+  unfolding instruction_kind instructions float_means flow_of
+  below g h =
+      between (λ k. onward ((instruction_kind k).means body)) 1 22
+      (rw (float-on (float_in (word_in body)), truth-on (byte_in body 0), frame_on (byte_in body 0)) tt)
+      k g h
 
   above : 26 ≤ k → T (onward ((instruction_kind k).means body))
   unfolding instruction_kind instructions flow_of
@@ -69,9 +70,9 @@ module _ (k : ℕ) (body : List ℕ) where
       (λ (l : 28 ≤ k). rw (sym (after-instructions k l)) tt)
       (below_or_not k 28)
 
-  module _ (i : Instruction) (e : (instruction_kind k).means body ≡ Is i) where
-    pub on_below : NoneOf ((0 ∷ []) ∷ []) k → k < 23 → flow_of i ≡ On
-    on_below o h = is-on (flow_of i) (subst (λ (m : Meaning). T (onward m)) e (below o h))
+  module _ (i : Instruction) (e : (instruction_kind k).means body ≡ Some i) where
+    pub on_below : 1 ≤ k → k < 23 → flow_of i ≡ On
+    on_below g h = is-on (flow_of i) (subst (λ (m : Option Instruction). T (onward m)) e (below g h))
 
     pub on-above : 26 ≤ k → flow_of i ≡ On
-    on-above h = is-on (flow_of i) (subst (λ (m : Meaning). T (onward m)) e (above h))
+    on-above h = is-on (flow_of i) (subst (λ (m : Option Instruction). T (onward m)) e (above h))

@@ -3,19 +3,18 @@
 
 pub mod bytes;
 
-ghost use Rattle.std.specs.Prelude.{◌≡◌};
-ghost use Rattle.kinds.specs.declared.Instruction.TheVariants.{Binary};
-ghost use Rattle.kinds.specs.declared.Meaning.TheVariants.{Is};
+ghost use Rattle.std.specs.Prelude.{◌≡◌, ℕ, Option, is_some};
 ghost use Rattle.kinds.specs.Flows.{flow_of};
-ghost use Rattle.kinds.specs.Table.{instruction_kind, record_kind, is_meant, float_means, truth_means, frame_means, switch_means, slots_means, input_means};
+ghost use Rattle.kinds.specs.declared.Instruction.TheVariants.{Binary, Switch};
+ghost use Rattle.kinds.specs.Bytes.{byte_in, pair_in};
+ghost use Rattle.kinds.specs.Table.{Kind, instruction_kind, record_kind, float_means, input_means};
 
 use bytes::{byte_at, pair_of, word_of};
 use numbers::Operation;
-use value::coding::Decoded;
 use value::{Value, coding, words};
 
 // One instruction with its operands: slots s and t, numbers k and n, positions a and b.
-#[derive(Clone, Copy)]
+#[derive(Clone, Copy, Debug, PartialEq)]
 pub enum Instruction {
     End,
     Int(i64),
@@ -42,20 +41,12 @@ pub enum Instruction {
     Put { s: u8, k: u8 },
 }
 
-// What a body of the code means: an instruction, or a kind unknown or a rule broken.
-#[derive(Clone, Copy)]
-pub enum Meaning {
-    Is(Instruction),
-    Broken,
-}
-
-// The same of the records before the code: 80 with its slots, an input, 85, or a kind unknown or a rule broken.
-#[derive(Clone, Copy)]
+// A record before the code: 80 with its slots, an input, or 85.
+#[derive(Clone, Copy, Debug, PartialEq)]
 pub enum Record {
     Slots(u8),
     Input(Value),
     Code,
-    Wrong,
 }
 
 // How many bytes follow the kind byte of an instruction; none where the kind is unknown.
@@ -75,109 +66,80 @@ pub fn instruction_size(kind: u8) -> usize
     }
 }
 
-#[tactic(auto, unfolding(crate::specs::Table::float_means))]
-fn float_meant(word: u64) -> Meaning
+#[tactic(auto, unfolding(crate::specs::Table::float_means, value::specs::Coding::float_in))]
+fn float_meant(word: u64) -> Option<Instruction>
     ensures { result ≡ float_means word }
 {
-    // The exponent's eleven bits, all set, are an infinity or a NaN.
-    if word % 0x8000_0000_0000_0000 / 0x10_0000_0000_0000 == 2047 {
-        return Meaning::Broken;
-    }
-    Meaning::Is(Instruction::Float(f64::from_bits(word)))
+    words::to_float(word).map(Instruction::Float)
 }
 
-#[tactic(auto, unfolding(crate::specs::Table::truth_means))]
-fn truth_meant(byte: u8) -> Meaning
-    ensures { result ≡ truth_means byte }
+fn binary(op: Operation, s: u8, t: u8) -> Instruction
+    ensures { result ≡ Binary op s t }
 {
-    if byte <= 1 {
-        return Meaning::Is(Instruction::Bool(byte == 1));
-    }
-    Meaning::Broken
+    Instruction::Binary { op, s, t }
 }
 
-#[tactic(auto, unfolding(crate::specs::Table::frame_means))]
-fn frame_meant(n: u8) -> Meaning
-    ensures { result ≡ frame_means n }
+fn switch_in(body: &[u8]) -> Instruction
+    ensures { result ≡ Switch (byte_in body.now 0) (pair_in body.now 1) (pair_in body.now 3) }
 {
-    if 1 <= n {
-        return Meaning::Is(Instruction::Frame { n });
-    }
-    Meaning::Broken
-}
-
-fn binary_meant(op: Operation, s: u8, t: u8) -> Meaning
-    ensures { result ≡ Is (Binary op s t) }
-{
-    Meaning::Is(Instruction::Binary { op, s, t })
-}
-
-#[tactic(auto, unfolding(crate::specs::Table::switch_means))]
-fn switch_meant(body: &[u8]) -> Meaning
-    ensures { result ≡ switch_means body.now }
-{
-    let a = pair_of(byte_at(body, 1), byte_at(body, 2));
-    let b = pair_of(byte_at(body, 3), byte_at(body, 4));
-    Meaning::Is(Instruction::Switch {
+    Instruction::Switch {
         s: byte_at(body, 0),
-        a,
-        b,
-    })
+        a: pair_of(byte_at(body, 1), byte_at(body, 2)),
+        b: pair_of(byte_at(body, 3), byte_at(body, 4)),
+    }
 }
 
-// What an instruction's body means.
-#[tactic(auto, unfolding(crate::specs::Table::instruction_kind, crate::specs::Table::instructions))]
-pub fn instruction_meant(kind: u8, body: &[u8]) -> Meaning
+// What an instruction's body means; nothing, where the kind is unknown or a rule is broken.
+#[tactic(auto, unfolding(crate::specs::Table::instruction_kind, crate::specs::Table::instructions, crate::specs::Table::truth_means, crate::specs::Table::frame_means, crate::specs::Table::switch_means))]
+pub fn instruction_meant(kind: u8, body: &[u8]) -> Option<Instruction>
     ensures { result ≡ (instruction_kind kind).means body.now }
 {
     let s = byte_at(body, 0);
     let t = byte_at(body, 1);
-    match kind {
-        0x00 => Meaning::Is(Instruction::End),
-        0x01 => Meaning::Is(Instruction::Int(words::to_signed(word_of(body)))),
-        0x02 => float_meant(word_of(body)),
-        0x03 => truth_meant(s),
-        0x04 => Meaning::Is(Instruction::Nil),
-        0x05 => Meaning::Is(Instruction::Touch { s }),
-        0x06 => Meaning::Is(Instruction::Load { s }),
-        0x07 => Meaning::Is(Instruction::Store { s }),
-        0x08 => Meaning::Is(Instruction::Ialloc { s }),
-        0x09 => Meaning::Is(Instruction::Malloc { s }),
-        0x0A => Meaning::Is(Instruction::Ifetch { s }),
-        0x0B => Meaning::Is(Instruction::Istore { s, t }),
-        0x0C => Meaning::Is(Instruction::Mfetch { s }),
-        0x0D => Meaning::Is(Instruction::Mstore { s, t }),
-        0x0E => frame_meant(s),
-        0x0F => Meaning::Is(Instruction::Own),
-        0x10 => binary_meant(Operation::Add, s, t),
-        0x11 => binary_meant(Operation::Sub, s, t),
-        0x12 => binary_meant(Operation::Mul, s, t),
-        0x13 => binary_meant(Operation::Div, s, t),
-        0x14 => binary_meant(Operation::Less, s, t),
-        0x15 => binary_meant(Operation::Equal, s, t),
-        0x16 => Meaning::Is(Instruction::Offset { s, t }),
-        0x17 => switch_meant(body),
-        0x18 => Meaning::Is(Instruction::Spawn { a: pair_of(s, t) }),
-        0x19 => Meaning::Is(Instruction::Apply {
+    let meant = match kind {
+        0x00 => Instruction::End,
+        0x01 => Instruction::Int(word_of(body).cast_signed()),
+        0x02 => return float_meant(word_of(body)),
+        0x03 => return (s <= 1).then_some(Instruction::Bool(s == 1)),
+        0x04 => Instruction::Nil,
+        0x05 => Instruction::Touch { s },
+        0x06 => Instruction::Load { s },
+        0x07 => Instruction::Store { s },
+        0x08 => Instruction::Ialloc { s },
+        0x09 => Instruction::Malloc { s },
+        0x0A => Instruction::Ifetch { s },
+        0x0B => Instruction::Istore { s, t },
+        0x0C => Instruction::Mfetch { s },
+        0x0D => Instruction::Mstore { s, t },
+        0x0E => return (1 <= s).then_some(Instruction::Frame { n: s }),
+        0x0F => Instruction::Own,
+        0x10 => binary(Operation::Add, s, t),
+        0x11 => binary(Operation::Sub, s, t),
+        0x12 => binary(Operation::Mul, s, t),
+        0x13 => binary(Operation::Div, s, t),
+        0x14 => binary(Operation::Less, s, t),
+        0x15 => binary(Operation::Equal, s, t),
+        0x16 => Instruction::Offset { s, t },
+        0x17 => switch_in(body),
+        0x18 => Instruction::Spawn { a: pair_of(s, t) },
+        0x19 => Instruction::Apply {
             a: pair_of(s, t),
             s: byte_at(body, 2),
-        }),
-        0x1A => Meaning::Is(Instruction::Get { s, k: t }),
-        0x1B => Meaning::Is(Instruction::Put { s, k: t }),
-        _ => Meaning::Broken,
-    }
+        },
+        0x1A => Instruction::Get { s, k: t },
+        0x1B => Instruction::Put { s, k: t },
+        _ => return None,
+    };
+    Some(meant)
 }
 
 // Whether an instruction's body means anything. Only a FLOAT is made for it.
-#[tactic(auto, unfolding(crate::specs::Table::instruction_kind, crate::specs::Table::instructions, crate::specs::Table::is_meant))]
+#[tactic(auto, unfolding(crate::specs::Table::instruction_kind, crate::specs::Table::instructions))]
 pub fn is_meant(kind: u8, body: &[u8]) -> bool
-    ensures { result ≡ is_meant ((instruction_kind kind).means body.now) }
+    ensures { result ≡ is_some ((instruction_kind kind).means body.now) }
 {
     match kind {
-        0x02 => match instruction_meant(kind, body) {
-            Meaning::Is(_) => true,
-            Meaning::Broken => false,
-        },
+        0x02 => instruction_meant(kind, body).is_some(),
         0x03 => byte_at(body, 0) <= 1,
         0x0E => 1 <= byte_at(body, 0),
         0x00..=0x1B => true,
@@ -197,44 +159,69 @@ pub fn record_size(kind: u8) -> usize
     }
 }
 
-#[tactic(auto, unfolding(crate::specs::Table::slots_means))]
-fn slots_meant(r: u8) -> Record
-    ensures { result ≡ slots_means r }
+fn input_meant(v: Option<Value>) -> Option<Record>
+    ensures { result ≡ input_means v }
 {
-    if 1 <= r {
-        return Record::Slots(r);
-    }
-    Record::Wrong
+    v.map(Record::Input)
 }
 
-#[tactic(auto, unfolding(crate::specs::Table::input_means))]
-fn input_meant(d: Decoded) -> Record
-    ensures { result ≡ input_means d }
-{
-    match d {
-        Decoded::Good(v) => Record::Input(v),
-        Decoded::Malformed => Record::Wrong,
-    }
-}
-
-// What the body of a record before the code means.
-#[tactic(auto, unfolding(crate::specs::Table::input_means, crate::specs::Table::record_kind, crate::specs::Table::records, value::specs::Coding::decoded, value::specs::Coding::only))]
-pub fn record_meant(kind: u8, body: &[u8]) -> Record
+// What the body of a record before the code means; nothing, where the kind is unknown or a rule is broken.
+#[tactic(auto, unfolding(crate::specs::Table::record_kind, crate::specs::Table::records, crate::specs::Table::slots_means, value::specs::Coding::decoded, value::specs::Coding::only))]
+pub fn record_meant(kind: u8, body: &[u8]) -> Option<Record>
     ensures { result ≡ (record_kind kind).means body.now }
 {
     match kind {
-        0x80 => slots_meant(byte_at(body, 0)),
+        0x80 => {
+            let r = byte_at(body, 0);
+            (1 <= r).then_some(Record::Slots(r))
+        }
         0x81 => input_meant(coding::decode(1, word_of(body))),
         0x82 => input_meant(coding::decode(2, word_of(body))),
-        0x83 => input_meant(coding::decode(3, bytes::wide(byte_at(body, 0)))),
-        0x84 => Record::Input(Value::Nil),
-        0x85 => Record::Code,
-        _ => Record::Wrong,
+        0x83 => input_meant(coding::decode(3, u64::from(byte_at(body, 0)))),
+        0x84 => Some(Record::Input(Value::Nil)),
+        0x85 => Some(Record::Code),
+        _ => None,
+    }
+}
+
+// What a part of an image is a row of, as one byte of kind and a body: an instruction of the code, or a record before it.
+pub trait Tabled: Sized {
+    // The table of the part's kinds.
+    ghost table: { ℕ → Kind (Option Self) };
+
+    fn size(kind: u8) -> usize
+        ensures { result ≡ (table kind).size };
+
+    fn meant(kind: u8, body: &[u8]) -> Option<Self>
+        ensures { result ≡ (table kind).means body.now };
+}
+
+impl Tabled for Instruction {
+    ghost table = { instruction_kind };
+
+    fn size(kind: u8) -> usize {
+        instruction_size(kind)
+    }
+
+    fn meant(kind: u8, body: &[u8]) -> Option<Instruction> {
+        instruction_meant(kind, body)
+    }
+}
+
+impl Tabled for Record {
+    ghost table = { record_kind };
+
+    fn size(kind: u8) -> usize {
+        record_size(kind)
+    }
+
+    fn meant(kind: u8, body: &[u8]) -> Option<Record> {
+        record_meant(kind, body)
     }
 }
 
 // Where a thread may go from an instruction: on to the next, nowhere, to a or b, or on with a new thread at a.
-#[derive(Clone, Copy)]
+#[derive(Clone, Copy, Debug, PartialEq, Eq)]
 pub enum Flow {
     On,
     Stops,
@@ -248,27 +235,8 @@ pub fn flow_of(i: Instruction) -> Flow
 {
     match i {
         Instruction::End => Flow::Stops,
-        Instruction::Int(_) => Flow::On,
-        Instruction::Float(_) => Flow::On,
-        Instruction::Bool(_) => Flow::On,
-        Instruction::Nil => Flow::On,
-        Instruction::Touch { s: _ } => Flow::On,
-        Instruction::Load { s: _ } => Flow::On,
-        Instruction::Store { s: _ } => Flow::On,
-        Instruction::Ialloc { s: _ } => Flow::On,
-        Instruction::Malloc { s: _ } => Flow::On,
-        Instruction::Ifetch { s: _ } => Flow::On,
-        Instruction::Istore { s: _, t: _ } => Flow::On,
-        Instruction::Mfetch { s: _ } => Flow::On,
-        Instruction::Mstore { s: _, t: _ } => Flow::On,
-        Instruction::Frame { n: _ } => Flow::On,
-        Instruction::Own => Flow::On,
-        Instruction::Binary { op: _, s: _, t: _ } => Flow::On,
-        Instruction::Offset { s: _, t: _ } => Flow::On,
-        Instruction::Switch { s: _, a, b } => Flow::Jumps(a, b),
-        Instruction::Spawn { a } => Flow::Forks(a),
-        Instruction::Apply { a, s: _ } => Flow::Forks(a),
-        Instruction::Get { s: _, k: _ } => Flow::On,
-        Instruction::Put { s: _, k: _ } => Flow::On,
+        Instruction::Switch { a, b, .. } => Flow::Jumps(a, b),
+        Instruction::Spawn { a } | Instruction::Apply { a, .. } => Flow::Forks(a),
+        _ => Flow::On,
     }
 }

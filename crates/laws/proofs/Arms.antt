@@ -1,7 +1,7 @@
--- What the arms of a `match` on a number know, and how a rule follows that a test of each number shows. Assumes nothing.
+-- A test of each number of a range, but of some, holds of any of them. Assumes nothing.
 use Prim.Native.Nat.{ℕ, zero, suc, ◌+◌, ◌<◌, ◌≤◌}
 use native.Mathlib.Omega.{arith}
-use mathlib.Core.Path.{◌≡◌, refl, sym, subst}
+use mathlib.Core.Path.{◌≡◌, refl, subst}
 use mathlib.Core.Bool.{Bool, true, false, ◌&&◌, ◌||◌}
 use mathlib.Core.Logic.{◌⊎◌, inl, inr, ⊎_elim}
 use mathlib.Core.List.{List, [], ◌∷◌}
@@ -21,37 +21,10 @@ and_second : (a b : Bool) → T (a && b) → T b
 and_second true b t = t
 and_second false b t = absurd t
 
--- an arm of keys: the test holds at each
-abbrev pub each : (ℕ → Bool) → List ℕ → Bool
-each p [] = true
-each p (x ∷ xs) = p x && each p xs
-
-pub keyed : (p : ℕ → Bool) (xs : List ℕ) → T (each p xs) → (k : ℕ) → OneOf xs k → T (p k)
-keyed p [] t k h = absurd h
-keyed p (x ∷ []) t k e = subst (λ (n : ℕ). T (p n)) (sym e) (and_first (p x) true t)
-keyed p (x ∷ y ∷ ys) t k h =
-    ⊎_elim
-    (λ (e : k ≡ x). subst (λ (n : ℕ). T (p n)) (sym e) (and_first (p x) (each p (y ∷ ys)) t))
-    (λ (r : OneOf (y ∷ ys) k). keyed p (y ∷ ys) (and_second (p x) (each p (y ∷ ys)) t) k r)
-    h
-
--- an arm of a range, or the default: the number is none of the keys, the last arm's first
-abbrev pub NoneOf : List (List ℕ) → ℕ → Type 0
-NoneOf [] k = Unit
-NoneOf (xs ∷ ys) k = NoneOf ys k × (OneOf xs k → ⊥)
-
--- the keys of n arms of one number each, from lo on
-abbrev pub singles : ℕ → ℕ → List (List ℕ)
-singles lo zero = []
-singles lo (suc n) = ((lo + n) ∷ []) ∷ singles lo n
-
+-- k is one of a list
 abbrev pub among : ℕ → List ℕ → Bool
 among k [] = false
 among k (x ∷ xs) = eqb k x || among k xs
-
-abbrev pub key : ℕ → List (List ℕ) → Bool
-key k [] = false
-key k (xs ∷ ys) = among k xs || key k ys
 
 is_one : (k : ℕ) (xs : List ℕ) → T (among k xs) → OneOf xs k
 is_one k [] t = t
@@ -61,14 +34,6 @@ is_one k (x ∷ y ∷ ys) t =
     (λ (h : T (eqb k x)). inl (eqb→eq k x h))
     (λ (h : T (among k (y ∷ ys))). inr (is_one k (y ∷ ys) h))
     (or_cases (eqb k x) (among k (y ∷ ys)) t)
-
-no_key : (k : ℕ) (ys : List (List ℕ)) → T (key k ys) → NoneOf ys k → ⊥
-no_key k [] t n = t
-no_key k (xs ∷ ys) t n =
-    ⊎_elim
-    (λ (h : T (among k xs)). n.1 (is_one k xs h))
-    (λ (h : T (key k ys)). no_key k ys h n.0)
-    (or_cases (among k xs) (key k ys) t)
 
 pub below_or_not : (a b : ℕ) → (a < b) ⊎ (b ≤ a)
 below_or_not a b = go (ltb a b) refl
@@ -90,18 +55,10 @@ between p lo (suc n) t k h g =
     (λ (l : k ≤ lo). subst (λ (m : ℕ). T (p m)) (omega arith) (and_first (p lo) (span p (suc lo) n) t))
     (below_or_not lo k)
 
--- the test holds at each number of the range that is no key
-pub ranged : (p : ℕ → Bool) (ys : List (List ℕ)) (lo n : ℕ) → T (span (λ k. key k ys || p k) lo n) → (k : ℕ) → NoneOf ys k → lo ≤ k → k < lo + n → T (p k)
+-- the test holds at each number of the range that is none of ys
+pub ranged : (p : ℕ → Bool) (ys : List ℕ) (lo n : ℕ) → T (span (λ k. among k ys || p k) lo n) → (k : ℕ) → (OneOf ys k → ⊥) → lo ≤ k → k < lo + n → T (p k)
 ranged p ys lo n t k o h g =
     ⊎_elim
-    (λ (a : T (key k ys)). absurd (no_key k ys a o))
+    (λ (a : T (among k ys)). absurd (o (is_one k ys a)))
     (λ (a : T (p k)). a)
-    (or_cases (key k ys) (p k) (between (λ k. key k ys || p k) lo n t k h g))
-
--- each of n numbers from lo on is a key
-pub past : (ys : List (List ℕ)) (lo n : ℕ) → T (span (λ k. key k ys) lo n) → (k : ℕ) → NoneOf ys k → lo ≤ k → lo + n ≤ k
-past ys lo n t k o h =
-    ⊎_elim
-    (λ (l : k < lo + n). absurd (no_key k ys (between (λ k. key k ys) lo n t k h l) o))
-    (λ (l : lo + n ≤ k). l)
-    (below_or_not k (lo + n))
+    (or_cases (among k ys) (p k) (between (λ k. among k ys || p k) lo n t k h g))

@@ -4,7 +4,7 @@ use native.Mathlib.Omega.{arith}
 use mathlib.Core.Path.{◌≡◌, refl, ap}
 use mathlib.Core.Option.{none, some}
 use mathlib.Core.List.{List, [], ◌∷◌, ◌++◌, map}
-use lib.ListN.{length, get_or, get_elem?, set, take, drop, replicate, length-drop}
+use lib.ListN.{length, get_or, get_elem?, take, drop, replicate, length-drop}
 use lib.Seq.{take-length}
 use Rattle.laws.proofs.Absurd.{below-zero}
 
@@ -14,15 +14,6 @@ replicate-snoc zero x = refl
 replicate-snoc (suc k) x = ap (λ (r : List _). x ∷ r) (replicate-snoc k x)
 
 module _ {A B : Type 0} (f : A → B) where
-  pub map-set : (xs : List A) (i : ℕ) (x : A) → map f (set xs i x) ≡ set (map f xs) i (f x)
-  map-set [] i x = refl
-  map-set (y ∷ ys) zero x = refl
-  map-set (y ∷ ys) (suc i) x = ap (λ (r : List B). f y ∷ r) (map-set ys i x)
-
-  pub map-append : (xs ys : List A) → map f (xs ++ ys) ≡ map f xs ++ map f ys
-  map-append [] ys = refl
-  map-append (x ∷ xs) ys = ap (λ (r : List B). f x ∷ r) (map-append xs ys)
-
   pub map-replicate : (k : ℕ) (x : A) → map f (replicate k x) ≡ replicate k (f x)
   map-replicate zero x = refl
   map-replicate (suc k) x = ap (λ (r : List B). f x ∷ r) (map-replicate k x)

@@ -57,7 +57,7 @@ module _ (c : Claim) (s : Seated c) where
         image = m.short;
       }
     where
-      held : Promise c.image u.r u.n u.code → (t : Live) → Runs c.image u.code t.thread → Held t.thread
+      held : Promise c.image u.layout.slots u.layout.inputs u.layout.code → (t : Live) → Runs c.image u.layout.code t.thread → Held t.thread
       held m t r =
           let w = m.whole t.thread.position r.at in
           let a = w.forward in
@@ -70,7 +70,7 @@ module _ (c : Claim) (s : Seated c) where
       numbered ready e = tt
       numbered (on l) e = unfold place_sound in let a = seen_below c l e in let b = u.sound.used in let d = s.region in omega arith
 
-      lives : Promise c.image u.r u.n u.code → (t : Live) → Stands c u.code t → Lives t
+      lives : Promise c.image u.layout.slots u.layout.inputs u.layout.code → (t : Live) → Stands c u.layout.code t → Lives t
       lives m t h = record { thread = held m t h.runs; placed = record { place = numbered t.place h.place } }
 
   bare : is_none c.image ≡ true → is_bare c ≡ true → Fit c

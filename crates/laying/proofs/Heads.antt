@@ -12,7 +12,7 @@ use Rattle.value.specs.Coding.{tag_of}
 use Rattle.value.proofs.RoundTrip.{decode-encode}
 use Rattle.rules.specs.Claim as Claim
 use Rattle.rules.specs.Claim.{Claim, Place, ready, on, Live, ready_in, waits_on, is_ready, is_on, nobody, thread_at}
-use Rattle.threads.specs.Heads.{packed, head_of, wait_place, ready_place, place_in, readied, value_or, thread_in}
+use Rattle.threads.specs.Heads.{packed, head_of, wait_place, ready_place, place_in, readied, thread_in}
 use Rattle.laying.specs.Laid.{spread, place_number, head_number, acc_number}
 use Rattle.laying.proofs.Spread.{spread-get}
 use Rattle.laying.proofs.Fitting.{Held, Numbered, Placed, Fit}
@@ -41,7 +41,7 @@ module _ (p a b t : ℕ) (hp : p < 65536) where
     unfolding packed
     tag_back = omega arith
 
-place-small : (p : Place) → place_number p < 65536
+pub place-small : (p : Place) → place_number p < 65536
 unfolding place_number wait_place
 place-small ready = omega arith
 place-small (on l) = by (ltb l 65534) refl
@@ -51,7 +51,7 @@ place-small (on l) = by (ltb l 65534) refl
     by false e = omega arith
 
 pub thread-back : (t : Live) → Held t.thread → thread_in (head_number t) (acc_number t) ≡ t.thread
-unfolding thread_in head_number head_of acc_number value_or
+unfolding thread_in head_number head_of acc_number
 thread-back t h =
     let p = place-small t.place in
     let g = (tagged t.thread.acc).high in

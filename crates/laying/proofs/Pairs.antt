@@ -3,11 +3,12 @@ use Prim.Native.Nat.{ℕ, zero, suc, ◌-◌, ◌≤◌}
 use native.Mathlib.Omega.{arith}
 use mathlib.Core.Path.{◌≡◌, refl, sym, ap, ◌∙◌}
 use mathlib.Core.Bool.{true, ◌&&◌}
-use mathlib.Core.List.{List, [], ◌∷◌, map}
+use mathlib.Core.List.{List, [], ◌∷◌}
 use lib.Dec.{eqb}
 use lib.ListN.{length, take, drop, replicate, take-append-drop, length-drop}
 use lib.Seq.{drop_at, length-take-le}
 use borrow.Author.Tests.{eqb-true, eq-eqb}
+use Rattle.std.proofs.lemmas.List.{map-id}
 use Rattle.laws.specs.Lists.{all}
 use Rattle.laws.proofs.Absurd.{clash, below-zero}
 use Rattle.laws.proofs.Choice.{both, first, second}
@@ -74,21 +75,17 @@ module _ {A : Type 0} (f h : A → ℕ) (g : ℕ → ℕ → A) where
       }
 
 -- numbers, written as they are
-pub map_same : (xs : List ℕ) → map (λ b. b) xs ≡ xs
-map_same [] = refl
-map_same (x ∷ xs) = ap (λ (r : List ℕ). x ∷ r) (map_same xs)
-
 pub plain_back : (n m : ℕ) (s : List ℕ) → length s ≡ n → m ≤ n → all is_zero (drop m s) ≡ true → spread (λ b. b) n (take m s) ≡ s
 unfolding spread
 plain_back n m s e h z =
     let a = length-take-le m s (omega arith) in
     let d = length-drop m s in
     let k : n - length (take m s) ≡ length (drop m s) = omega arith in
-    rw (map_same (take m s), k, zeros-are (drop m s) z) (take-append-drop m s)
+    rw (map-id (take m s), k, zeros-are (drop m s) z) (take-append-drop m s)
 
 pub plain-take : (n : ℕ) (xs : List ℕ) → take (length xs) (spread (λ b. b) n xs) ≡ xs
-plain-take n xs = spread-take (λ b. b) n xs ∙ map_same xs
+plain-take n xs = spread-take (λ b. b) n xs ∙ map-id xs
 
 pub plain-drop : (n : ℕ) (xs : List ℕ) → all is_zero (drop (length xs) (spread (λ b. b) n xs)) ≡ true
 unfolding spread
-plain-drop n xs = rw (map_same xs, drop_at xs (replicate (n - length xs) 0) (length xs) refl) (zeros-pass (n - length xs))
+plain-drop n xs = rw (map-id xs, drop_at xs (replicate (n - length xs) 0) (length xs) refl) (zeros-pass (n - length xs))

@@ -9,8 +9,9 @@ use lib.ListN.{length, get_or, take, drop, set, replicate, length-append, length
 use lib.Seq.{set-append_left, take_at, drop_at, set_out, set_at}
 use borrow.Author.Tests.{ltb-true, ltb-false}
 use Rattle.std.specs.Prelude.{if◌then◌else◌}
+use Rattle.std.proofs.lemmas.List.{map-append, map-set}
 use Rattle.laws.proofs.Absurd.{below-zero}
-use Rattle.laws.proofs.Lists.{replicate-snoc, map-set, map-append, map-replicate, get-mapped}
+use Rattle.laws.proofs.Lists.{replicate-snoc, map-replicate, get-mapped}
 use Rattle.lent.specs.Runs.{filled_from}
 use Rattle.cells.specs.Written.{set_below}
 use Rattle.threads.specs.Row.{shifted}

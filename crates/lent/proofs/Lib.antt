@@ -1,4 +1,3 @@
-pub mod Writes
-pub mod Bare
 pub mod Bytes
 pub mod Kept
+pub mod Turns

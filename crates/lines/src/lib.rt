@@ -6,9 +6,5 @@ use std::io::Write;
 
 pub fn line<W: Write>(out: &mut W, name: &[u8], agrees: bool) -> io::Result<()> {
     out.write_all(name)?;
-    if agrees {
-        out.write_all(b" agrees\n")
-    } else {
-        out.write_all(b" differs\n")
-    }
+    out.write_all(if agrees { b" agrees\n" } else { b" differs\n" })
 }

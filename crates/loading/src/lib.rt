@@ -2,11 +2,12 @@
 #![tactic(auto)]
 
 ghost use Rattle.std.specs.Prelude.{◌≡◌};
+ghost use Rattle.rules.specs.Refused.{answered, answered_at};
 ghost use Rattle.state.specs.State.{state, Stands, machine_of};
 ghost use Rattle.calls.specs.Calls as Calls;
 
-use lodging::Answer;
-use state::seats::Region;
+use rules::CallRefusal;
+use state::whole::Lent;
 use state::{seats, whole};
 
 // On a sound state.
@@ -19,35 +20,32 @@ fn load_in(
     images: &mut [u8],
     seat: u32,
     image: &[u8],
-) -> Answer
+) -> Result<(), CallRefusal>
     requires { Stands (state book.old tags.old words.old heads.old accs.old images.old) }
-    ensures { Calls.loaded_in (machine_of (state book.old tags.old words.old heads.old accs.old images.old)) (state book.old tags.old words.old heads.old accs.old images.old) seat image.now ≡ Calls.loaded result.number result.place (state book.new tags.new words.new heads.new accs.new images.new) }
+    ensures { Calls.loaded_in (machine_of (state book.old tags.old words.old heads.old accs.old images.old)) (state book.old tags.old words.old heads.old accs.old images.old) seat image.now ≡ Calls.loaded (answered result) (answered_at result) (state book.new tags.new words.new heads.new accs.new images.new) }
 {
     let k = seat as usize;
-    match seats::region_of(&book[..], k) {
-        Region::Nowhere => Answer {
-            number: 20,
-            place: 0,
-        },
-        Region::At(a, e) => {
-            let b = k * 9;
-            let d = b + 9;
-            let h = k * 32;
-            let g = h + 32;
-            let i = k * 4096;
-            let j = i + 4096;
-            lodging::load_seat(
-                &mut book[b..d],
-                &mut tags[a..e],
-                &mut words[a..e],
-                &mut heads[h..g],
-                &mut accs[h..g],
-                &mut images[i..j],
-                a as u32,
-                image,
-            )
-        }
-    }
+    let Some(region) = seats::region_of(&book[..], k) else {
+        return Err(CallRefusal::NoSuchSeat);
+    };
+    let a = region.start;
+    let e = region.end;
+    let b = k * 9;
+    let d = b + 9;
+    let h = k * 32;
+    let g = h + 32;
+    let i = k * 4096;
+    let j = i + 4096;
+    lodging::load_seat(
+        &mut book[b..d],
+        &mut tags[a..e],
+        &mut words[a..e],
+        &mut heads[h..g],
+        &mut accs[h..g],
+        &mut images[i..j],
+        a as u32,
+        image,
+    )
 }
 
 // Takes an image into a vacant seat.
@@ -60,21 +58,19 @@ pub fn load(
     images: &mut [u8],
     seat: u32,
     image: &[u8],
-) -> Answer
-    ensures { Calls.load_call (state book.old tags.old words.old heads.old accs.old images.old) seat image.now ≡ Calls.loaded result.number result.place (state book.new tags.new words.new heads.new accs.new images.new) }
+) -> Result<(), CallRefusal>
+    ensures { Calls.load_call (state book.old tags.old words.old heads.old accs.old images.old) seat image.now ≡ Calls.loaded (answered result) (answered_at result) (state book.new tags.new words.new heads.new accs.new images.new) }
 {
-    if !whole::is_sound(
-        &book[..],
-        &tags[..],
-        &words[..],
-        &heads[..],
-        &accs[..],
-        &images[..],
-    ) {
-        return Answer {
-            number: 32,
-            place: 0,
-        };
+    let lent = Lent {
+        book: &book[..],
+        tags: &tags[..],
+        words: &words[..],
+        heads: &heads[..],
+        accs: &accs[..],
+        images: &images[..],
+    };
+    if !whole::is_sound(lent) {
+        return Err(CallRefusal::Unsound);
     }
     load_in(book, tags, words, heads, accs, images, seat, image)
 }

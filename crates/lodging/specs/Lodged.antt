@@ -1,20 +1,20 @@
 -- A seat's parts after a load and after a clearing, over lists of numbers: what the code does, whatever the lists hold. Assumes nothing.
-use Rattle.std.specs.Prelude.{ℕ, ◌+◌, ◌%◌, List, [], ◌∷◌, length, get_or, set, leb, eqb}
+use Rattle.std.specs.Prelude.{ℕ, Result, Ok, Err, ◌+◌, ◌%◌, List, [], ◌∷◌, length, get_or, set, leb, eqb}
 use Rattle.std.specs.Prelude.{if◌then◌else◌}
 use Rattle.value.specs.declared.Value.{Value}
 use Rattle.value.specs.declared.Value.TheVariants.{Nil}
 use Rattle.value.specs.Coding.{tag_of, word_of}
-use Rattle.image.specs.declared.reader.Verdict.{Verdict}
-use Rattle.image.specs.declared.reader.Verdict.TheVariants.{TooLong, BadAt, Good}
+use Rattle.image.specs.declared.reader.Layout.{Layout}
 use Rattle.image.specs.Records.{inputs}
-use Rattle.image.specs.Reading.{read_image, number_of, place_of}
+use Rattle.image.specs.Reading.{Verdict, read_image}
+use Rattle.rules.specs.declared.CallRefusal.{CallRefusal}
+use Rattle.rules.specs.declared.CallRefusal.TheVariants.{NotVacant, TooManySlots}
+use Rattle.rules.specs.Refused.{call_number, place_of, turned_down}
 use Rattle.rules.specs.Decide.{thread}
 use Rattle.lent.specs.Runs.{wiped, overlaid}
 use Rattle.threads.specs.Heads.{ready_place}
 use Rattle.threads.specs.Row.{Row, row, put_at}
 use Rattle.laying.specs.Laid.{Parts}
-use Rattle.lodging.specs.declared.Judged.{Judged}
-use Rattle.lodging.specs.declared.Judged.TheVariants.{Fits, Turned}
 
 -- the book of a claim as it is before its first step: image length, start of the code, cells used, live threads
 unfoldable pub book_for : ℕ → ℕ → ℕ → ℕ → List ℕ → List ℕ
@@ -23,13 +23,12 @@ book_for long code used live b = set (set (set (set (set (set (set b 2 long) 3 c
 -- ---- loading
 
 -- what is known of an image before anything is written: "load: not vacant", "image over 4,096 bytes; bad image, with place; r over the cell share"
-unfoldable pub judged_by : ℕ → Verdict → Judged
-judged_by share TooLong = Turned (number_of TooLong) (place_of TooLong)
-judged_by share (BadAt p) = Turned (number_of (BadAt p)) (place_of (BadAt p))
-judged_by share (Good r n code) = if leb r share then Fits r n code else Turned 24 0
+unfoldable pub judged_by : ℕ → Verdict → Result Layout CallRefusal
+judged_by share (Err f) = Err (turned_down f)
+judged_by share (Ok g) = if leb g.slots share then Ok g else Err TooManySlots
 
-unfoldable pub judged : List ℕ → List ℕ → Judged
-judged book image = if eqb (get_or book 2 0) 0 then judged_by (get_or book 0 0) (read_image image) else Turned 21 0
+unfoldable pub judged : List ℕ → List ℕ → Result Layout CallRefusal
+judged book image = if eqb (get_or book 2 0) 0 then judged_by (get_or book 0 0) (read_image image) else Err NotVacant
 
 pub record Cells : Type 0 where
   pub tags : List ℕ
@@ -67,9 +66,9 @@ pub record Loaded : Type 0 where
 abbrev pub loaded : ℕ → ℕ → Parts → Loaded
 loaded n place p = record { number = n; place = place; after = p }
 
-unfoldable pub loaded_by : ℕ → List ℕ → Parts → Judged → Loaded
-loaded_by start image p (Fits r n code) = loaded 0 0 (lodged start image r n code p)
-loaded_by start image p (Turned number place) = loaded number place p
+unfoldable pub loaded_by : ℕ → List ℕ → Parts → Result Layout CallRefusal → Loaded
+loaded_by start image p (Ok g) = loaded 0 0 (lodged start image g.slots g.inputs g.code p)
+loaded_by start image p (Err r) = loaded (call_number r) (place_of r) p
 
 unfoldable pub load_on : ℕ → List ℕ → Parts → Loaded
 load_on start image p = loaded_by start image p (judged p.book image)
@@ -80,11 +79,11 @@ unfoldable pub emptied : Parts → Parts
 emptied p =
     record {
       book = book_for 0 0 0 0 p.book;
-      tags = wiped p.tags;
-      words = wiped p.words;
-      heads = wiped p.heads;
-      accs = wiped p.accs;
-      image = wiped p.image;
+      tags = wiped 0 p.tags;
+      words = wiped 0 p.words;
+      heads = wiped 0 p.heads;
+      accs = wiped 0 p.accs;
+      image = wiped 0 p.image;
     }
 
 pub record Cleared : Type 0 where

@@ -5,40 +5,27 @@ ghost use Rattle.std.specs.Prelude.{◌≡◌, ◌%◌};
 ghost use Rattle.image.specs.Records.{inputs};
 ghost use Rattle.threads.specs.Row.{row};
 ghost use Rattle.laying.specs.Laid.{parts};
+ghost use Rattle.rules.specs.Refused.{answered, answered_at};
 ghost use Rattle.lodging.specs.Lodged as Lodged;
 
-use image::reader::Verdict;
-use image::records::Head;
+use image::reader::Layout;
 use image::{reader, records};
-use lent::{copy8, get32, put16, put32, put64, wipe8, wipe16, wipe64};
-use rules::Thread;
+use kinds::Record;
+use lent::{get, overlay, put, wipe};
+use rules::{CallRefusal, Thread};
 use value::{Value, coding};
-
-// What is known of an image before anything is written: what the reader says of it, or the number and the place that refuse it.
-#[derive(Clone, Copy)]
-pub enum Judged {
-    Fits(u8, usize, usize),
-    Turned(u8, usize),
-}
-
-// A load's answer.
-#[derive(Clone, Copy)]
-pub struct Answer {
-    pub number: u8,
-    pub place: usize,
-}
 
 #[tactic(auto, unfolding(crate::specs::Lodged::book_for))]
 fn start_book(book: &mut [u32], long: u32, code: u32, used: u32, live: u32)
     ensures { book.new ≡ Lodged.book_for long code used live book.old }
 {
-    put32(book, 2, long);
-    put32(book, 3, code);
-    put32(book, 4, used);
-    put32(book, 5, live);
-    put32(book, 6, 0);
-    put32(book, 7, 0);
-    put32(book, 8, 0);
+    put(book, 2, long);
+    put(book, 3, code);
+    put(book, 4, used);
+    put(book, 5, live);
+    put(book, 6, 0);
+    put(book, 7, 0);
+    put(book, 8, 0);
 }
 
 fn low32(x: usize) -> u32
@@ -53,35 +40,20 @@ fn low16(x: u32) -> u16
     (x % 65536) as u16
 }
 
-#[tactic(auto, unfolding(crate::specs::Lodged::judged_by, image::specs::Reading::number_of, image::specs::Reading::place_of))]
-fn judge_by(share: u32, v: Verdict) -> Judged
-    ensures { result ≡ Lodged.judged_by share v }
-{
-    match v {
-        Verdict::TooLong => Judged::Turned(22, 0),
-        Verdict::BadAt(p) => Judged::Turned(23, p),
-        Verdict::Good {
-            slots: r,
-            inputs: n,
-            code,
-        } => {
-            if r as u32 <= share {
-                Judged::Fits(r, n, code)
-            } else {
-                Judged::Turned(24, 0)
-            }
-        }
-    }
-}
-
-#[tactic(auto, unfolding(crate::specs::Lodged::judged))]
-fn judge(book: &[u32], image: &[u8]) -> Judged
+// What is known of an image before anything is written.
+#[tactic(auto, unfolding(crate::specs::Lodged::judged, crate::specs::Lodged::judged_by))]
+fn judge(book: &[u32], image: &[u8]) -> Result<Layout, CallRefusal>
     ensures { result ≡ Lodged.judged book.now image.now }
 {
-    if get32(book, 2) == 0 {
-        return judge_by(get32(book, 0), reader::read(image));
+    if get(book, 2, 0) != 0 {
+        return Err(CallRefusal::NotVacant);
     }
-    Judged::Turned(21, 0)
+    let layout = reader::read(image)?;
+    if u32::from(layout.slots) <= get(book, 0, 0) {
+        Ok(layout)
+    } else {
+        Err(CallRefusal::TooManySlots)
+    }
 }
 
 // The inputs of an accepted image, as full I-cells from cell 1 on.
@@ -89,20 +61,17 @@ fn write_inputs(tags: &mut [u16], words: &mut [u64], image: &[u8], n: usize)
     ensures { Lodged.filled_with 1 (inputs n image.now) (Lodged.cells tags.old words.old) ≡ Lodged.cells tags.new words.new }
 {
     let mut at: usize = 2;
-    let mut i: usize = 0;
-    while i < n {
-        match records::head_at(image, at) {
-            Head::Input(v, behind) => {
-                i += 1;
+    for i in 0..n {
+        match records::whole_at(image, at) {
+            Ok((Record::Input(v), behind)) => {
                 let c = coding::encode(v);
-                put16(tags, i, c.tag);
-                put64(words, i, c.word);
+                put(tags, i + 1, c.tag);
+                put(words, i + 1, c.word);
                 at = behind;
             }
-            Head::Ended => return,
-            Head::Bad => return,
-            Head::Slots(_, _) => return,
-            Head::Code(_) => return,
+            Ok((Record::Slots(_), _)) => return,
+            Ok((Record::Code, _)) => return,
+            Err(_) => return,
         }
     }
 }
@@ -129,22 +98,16 @@ pub fn load_seat(
     kept: &mut [u8],
     start: u32,
     image: &[u8],
-) -> Answer
-    ensures { Lodged.load_on start image.now (parts book.old tags.old words.old heads.old accs.old kept.old) ≡ Lodged.loaded result.number result.place (parts book.new tags.new words.new heads.new accs.new kept.new) }
+) -> Result<(), CallRefusal>
+    ensures { Lodged.load_on start image.now (parts book.old tags.old words.old heads.old accs.old kept.old) ≡ Lodged.loaded (answered result) (answered_at result) (parts book.new tags.new words.new heads.new accs.new kept.new) }
 {
-    match judge(&book[..], image) {
-        Judged::Turned(number, place) => Answer { number, place },
-        Judged::Fits(r, n, code) => {
-            start_book(book, low32(image.len()), low32(code), r as u32, 1);
-            write_inputs(tags, words, image, n);
-            write_root(heads, accs, start);
-            copy8(kept, image);
-            Answer {
-                number: 0,
-                place: 0,
-            }
-        }
-    }
+    let layout = judge(&book[..], image)?;
+    let slots = u32::from(layout.slots);
+    start_book(book, low32(image.len()), low32(layout.code), slots, 1);
+    write_inputs(tags, words, image, layout.inputs);
+    write_root(heads, accs, start);
+    overlay(kept, image);
+    Ok(())
 }
 
 pub fn clear_seat(
@@ -154,17 +117,17 @@ pub fn clear_seat(
     heads: &mut [u64],
     accs: &mut [u64],
     kept: &mut [u8],
-) -> u8
-    ensures { Lodged.clear_on (parts book.old tags.old words.old heads.old accs.old kept.old) ≡ Lodged.cleared result (parts book.new tags.new words.new heads.new accs.new kept.new) }
+) -> Result<(), CallRefusal>
+    ensures { Lodged.clear_on (parts book.old tags.old words.old heads.old accs.old kept.old) ≡ Lodged.cleared (answered result) (parts book.new tags.new words.new heads.new accs.new kept.new) }
 {
-    if get32(&book[..], 2) == 0 {
-        return 35;
+    if get(&book[..], 2, 0) == 0 {
+        return Err(CallRefusal::Vacant);
     }
     start_book(book, 0, 0, 0, 0);
-    wipe16(tags);
-    wipe64(words);
-    wipe64(heads);
-    wipe64(accs);
-    wipe8(kept);
-    0
+    wipe(tags);
+    wipe(words);
+    wipe(heads);
+    wipe(accs);
+    wipe(kept);
+    Ok(())
 }

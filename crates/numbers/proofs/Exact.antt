@@ -2,47 +2,56 @@
 use native.Mathlib.Omega.{arith}
 use mathlib.Core.Path.{◌≡◌, refl, sym, ◌∙◌, ap}
 use mathlib.Core.Bool.{Bool, true, false}
-use lib.IntN.{ℤ}
-use lib.Signed.{le_z}
+use lib.IntN.{ℤ, nat_abs}
+use lib.Signed.{le_z, quot_z}
 use lib.Dec.{eqb}
-use borrow.Author.Tests.{eqb-true, eqb-false}
+use borrow.Author.Tests.{eqb-true, eqb-false, ne_eqb}
 use mir.Syntax.{w64}
 use mir.Val.{SFits, of_z}
-use Rattle.laws.proofs.Integers.{le-holds, le-both}
+use Rattle.std.specs.Prelude.{Option, Some, None, Err, SomeIff}
+use Rattle.std.specs.Option.{ok_or}
+use Rattle.std.specs.Int.{CanDivide}
+use Rattle.laws.proofs.Integers.{le-same, le-both, none_is}
 use Rattle.laws.proofs.Choice.{both, first, second}
-use Rattle.laws.proofs.Words.{back, read, same_bits}
-use Rattle.value.specs.Refusals.{out_of_range}
+use Rattle.laws.proofs.Words.{same_bits}
+use Rattle.value.specs.declared.refusals.Refusal.TheVariants.{OutOfRange}
 use Rattle.value.specs.Range.{in_range}
-use Rattle.value.specs.declared.wanted.Whole.TheVariants.{Is, Refused}
-use Rattle.value.proofs.Range.{range-fits}
-use Rattle.numbers.specs.Integers.{exactly, eq_z}
+use Rattle.value.proofs.Range.{range-fits, fits-range}
+use Rattle.numbers.specs.Integers.{exactly, quotient, eq_z}
 
-pub told : (z : ℤ) → in_range z ≡ true → Is z ≡ exactly z
+-- an answer that 64 bits hold, and no other, is told
+pub exactly_if : (o : Option ℤ) (z : ℤ) → SomeIff o (SFits w64 z) z → ok_or o OutOfRange ≡ exactly z
 unfolding exactly
-told z e = rw e
+exactly_if None z h = by (in_range z) refl
+  where
+    by : (t : Bool) → in_range z ≡ t → Err OutOfRange ≡ exactly z
+    by true e = absurd (h (range-fits z e))
+    by false e = rw e
+exactly_if (Some x) z h = rw (h.1, fits-range z h.0)
 
-pub refused : (z : ℤ) → in_range z ≡ false → Refused out_of_range ≡ exactly z
-unfolding exactly
-refused z e = rw e
+-- a quotient by another number than 0
+module _ (a b : ℤ) (f : of_z w64 b ≡ 0 → ⊥) where
+  quotient_is : exactly (quot_z a b) ≡ quotient a b
+  unfolding quotient
+  quotient_is = rw (ne_eqb (nat_abs b) 0 (λ e. f (ap (of_z w64) (none_is b e))))
 
--- an operation whose answer is in range, as the code computes it
-module _ (op : ℤ → ℤ → ℤ) (a b : ℤ) (ha : SFits w64 a) (hb : SFits w64 b) (e : in_range (op a b) ≡ true) where
-  pub answer-fits : SFits w64 (op (read a) (read b))
-  answer-fits = rw (back a ha, back b hb) (range-fits (op a b) e)
+  narrowed : (o : Option ℤ) → SomeIff o (CanDivide w64 a b) (quot_z a b) → SomeIff o (SFits w64 (quot_z a b)) (quot_z a b)
+  narrowed None h = λ k. h (omega (arith, f), k)
+  narrowed (Some x) h = (h.0.1, h.1)
 
-  pub answer-told : Is (read (op (read a) (read b))) ≡ exactly (op a b)
-  answer-told = rw (back a ha, back b hb, back (op a b) (range-fits (op a b) e)) (told (op a b) e)
+  pub quotient_if : (o : Option ℤ) → SomeIff o (CanDivide w64 a b) (quot_z a b) → ok_or o OutOfRange ≡ quotient a b
+  quotient_if o h = exactly_if o (quot_z a b) (narrowed o h) ∙ quotient_is
 
 equal-holds : (x y : ℤ) → x ≡ y → eq_z x y ≡ true
 unfolding eq_z
-equal-holds x y e = rw e (both (le-holds y y (omega arith)) (le-holds y y (omega arith)))
+equal-holds x y e = rw e (both (le-same y) (le-same y))
 
 equal-only : (x y : ℤ) → eq_z x y ≡ true → x ≡ y
 unfolding eq_z
 equal-only x y e = le-both x y (first (le_z x y) (le_z y x) e) (second (le_z x y) (le_z y x) e)
 
-pub bits-equal : (x y : ℤ) → SFits w64 x → SFits w64 y → eqb (of_z w64 x) (of_z w64 y) ≡ eq_z x y
-bits-equal x y h k = by (eqb (of_z w64 x) (of_z w64 y)) (eq_z x y) refl refl
+pub bits_equal : (x y : ℤ) → SFits w64 x → SFits w64 y → eqb (of_z w64 x) (of_z w64 y) ≡ eq_z x y
+bits_equal x y h k = by (eqb (of_z w64 x) (of_z w64 y)) (eq_z x y) refl refl
   where
     by : (s t : Bool) → eqb (of_z w64 x) (of_z w64 y) ≡ s → eq_z x y ≡ t → s ≡ t
     by true true p q = refl

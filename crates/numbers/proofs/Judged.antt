@@ -2,15 +2,15 @@
 use mathlib.Core.Path.{◌≡◌, refl}
 use mathlib.Core.Bool.{false}
 use Rattle.laws.proofs.Absurd.{clash}
-use Rattle.value.specs.Refusals.{wrong_kind}
+use Rattle.std.specs.Prelude.{Err}
+use Rattle.value.specs.declared.refusals.Refusal.TheVariants.{WrongKind}
 use Rattle.value.specs.Wanted.{as_boolean}
 use Rattle.value.specs.declared.Value.{Value}
 use Rattle.value.specs.declared.Value.TheVariants.{Integer, Float, Boolean, Nil, Location}
-use Rattle.value.specs.declared.wanted.Answer.TheVariants.{Refused}
 use Rattle.numbers.specs.declared.Operation.{Operation}
 use Rattle.numbers.specs.Operations.{takes_first, on_booleans, with_boolean, operated}
 
-pub judged-first : (o : Operation) (a b : Value) → takes_first o a ≡ false → operated o a b ≡ Refused wrong_kind
+pub judged-first : (o : Operation) (a b : Value) → takes_first o a ≡ false → operated o a b ≡ Err WrongKind
 unfolding takes_first operated with_boolean as_boolean on_booleans
 judged-first o (Integer x) b e = clash (cc)
 judged-first o (Float x) b e = clash (cc)

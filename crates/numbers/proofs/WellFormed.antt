@@ -13,17 +13,13 @@ use lib.Ieee.Bits.{is_true}
 use Rattle.std.specs.Prelude.{if◌then◌else◌}
 use Rattle.laws.proofs.Absurd.{clash}
 use Rattle.laws.proofs.Choice.{chosen, both}
-use Rattle.value.specs.Refusals.{no_such_cell, out_of_range, zero_divisor}
+use Rattle.std.specs.Prelude.{Result, Ok, Err}
+use Rattle.value.specs.declared.refusals.Refusal.{Refusal}
+use Rattle.value.specs.declared.refusals.Refusal.TheVariants.{NoSuchCell, OutOfRange, ZeroDivisor}
 use Rattle.value.specs.Range.{in_range, well_formed}
 use Rattle.value.specs.Wanted.{as_integer, as_float, as_boolean}
 use Rattle.value.specs.declared.Value.{Value}
 use Rattle.value.specs.declared.Value.TheVariants.{Integer, Float, Boolean, Nil, Location}
-use Rattle.value.specs.declared.wanted.Whole.{Whole}
-use Rattle.value.specs.declared.wanted.Real.{Real}
-use Rattle.value.specs.declared.wanted.Truth.{Truth}
-use Rattle.value.specs.declared.wanted.Place.TheVariants as Place
-use Rattle.value.specs.declared.wanted.Answer.{Answer}
-use Rattle.value.specs.declared.wanted.Answer.TheVariants.{Is, Refused}
 use Rattle.numbers.specs.declared.Operation.{Operation}
 use Rattle.numbers.specs.declared.Operation.TheVariants.{Add, Sub, Mul, Div, Less, Equal}
 use Rattle.numbers.specs.Integers as Integers
@@ -31,11 +27,11 @@ use Rattle.numbers.specs.Floats as Floats
 use Rattle.numbers.specs.Operations.{whole, real, on_integers, on_floats, on_booleans, takes_booleans, with_integer, with_float, with_boolean, operated}
 
 -- an answer's value, if it has one, is well formed
-abbrev Right : Answer → Type 0
-Right (Is v) = well_formed v ≡ true
-Right (Refused n) = Unit {0}
+abbrev Right : Result Value Refusal → Type 0
+Right (Ok v) = well_formed v ≡ true
+Right (Err n) = Unit {0}
 
-right-range : (z : ℤ) (t : Bool) → in_range z ≡ t → Right (whole (if t then Whole.Is z else Whole.Refused out_of_range))
+right-range : (z : ℤ) (t : Bool) → in_range z ≡ t → Right (whole (if t then Ok z else Err OutOfRange))
 unfolding whole well_formed
 right-range z true e = e
 right-range z false e = tt
@@ -44,7 +40,7 @@ right-exactly : (z : ℤ) → Right (whole (Integers.exactly z))
 unfolding Integers.exactly
 right-exactly z = right-range z (in_range z) refl
 
-right-divisor : (x y : ℤ) (t : Bool) → Right (whole (if t then Whole.Refused zero_divisor else Integers.exactly (quot_z x y)))
+right-divisor : (x y : ℤ) (t : Bool) → Right (whole (if t then Err ZeroDivisor else Integers.exactly (quot_z x y)))
 unfolding whole
 right-divisor x y true = tt
 right-divisor x y false = right-exactly (quot_z x y)
@@ -62,7 +58,7 @@ right-integers Div x y = right-quotient x y
 right-integers Less x y = refl
 right-integers Equal x y = refl
 
-right-finite : (x : Ieee.Float) → T (fits binary64 x) → (t : Bool) → finite x ≡ t → Right (real (if t then Real.Is x else Real.Refused out_of_range))
+right-finite : (x : Ieee.Float) → T (fits binary64 x) → (t : Bool) → finite x ≡ t → Right (real (if t then Ok x else Err OutOfRange))
 unfolding real well_formed
 right-finite x h true e = both (is_true (fits binary64 x) h) e
 right-finite x h false e = tt
@@ -71,7 +67,7 @@ right-finitely : (x : Ieee.Float) → T (fits binary64 x) → Right (real (Float
 unfolding Floats.finitely
 right-finitely x h = right-finite x h (finite x) refl
 
-right-real-divisor : (x y : Ieee.Float) (t : Bool) → Right (real (if t then Real.Refused zero_divisor else Floats.finitely (Ieee.div binary64 x y)))
+right-real-divisor : (x y : Ieee.Float) (t : Bool) → Right (real (if t then Err ZeroDivisor else Floats.finitely (Ieee.div binary64 x y)))
 unfolding real
 right-real-divisor x y true = tt
 right-real-divisor x y false = right-finitely (Ieee.div binary64 x y) (div-fits binary64 x y)
@@ -94,20 +90,20 @@ right-booleans Div x y = tt
 right-booleans Less x y = tt
 right-booleans Equal x y = refl
 
-right-with-integer : (o : Operation) (x : ℤ) (w : Whole) → Right (with_integer o x w)
+right-with-integer : (o : Operation) (x : ℤ) (w : Result ℤ Refusal) → Right (with_integer o x w)
 unfolding with_integer
-right-with-integer o x (Whole.Is y) = right-integers o x y
-right-with-integer o x (Whole.Refused n) = tt
+right-with-integer o x (Ok y) = right-integers o x y
+right-with-integer o x (Err n) = tt
 
-right-with-float : (o : Operation) (x : Ieee.Float) (w : Real) → Right (with_float o x w)
+right-with-float : (o : Operation) (x : Ieee.Float) (w : Result Ieee.Float Refusal) → Right (with_float o x w)
 unfolding with_float
-right-with-float o x (Real.Is y) = right-floats o x y
-right-with-float o x (Real.Refused n) = tt
+right-with-float o x (Ok y) = right-floats o x y
+right-with-float o x (Err n) = tt
 
-right-with-boolean : (o : Operation) (x : Bool) (w : Truth) → Right (with_boolean o x w)
+right-with-boolean : (o : Operation) (x : Bool) (w : Result Bool Refusal) → Right (with_boolean o x w)
 unfolding with_boolean
-right-with-boolean o x (Truth.Is y) = right-booleans o x y
-right-with-boolean o x (Truth.Refused n) = tt
+right-with-boolean o x (Ok y) = right-booleans o x y
+right-with-boolean o x (Err n) = tt
 
 right : (o : Operation) (a b : Value) → Right (operated o a b)
 unfolding operated
@@ -117,19 +113,19 @@ right o (Boolean x) b = right-with-boolean o x (as_boolean b)
 right o Nil b = tt
 right o (Location l) b = tt
 
-pub operated-well-formed : (o : Operation) (a b v : Value) → operated o a b ≡ Is v → well_formed v ≡ true
+pub operated-well-formed : (o : Operation) (a b v : Value) → operated o a b ≡ Ok v → well_formed v ≡ true
 operated-well-formed o a b v e = subst Right e (right o a b)
 
 -- OFFSET
-placed : (k n : ℕ) → (if leb k 65535 then Place.Is k else Place.Refused no_such_cell) ≡ Place.Is n → leb n 65535 ≡ true
+placed : (k n : ℕ) → (if leb k 65535 then Ok k else Err NoSuchCell) ≡ Ok n → leb n 65535 ≡ true
 placed k n e = chosen (leb k 65535) _ _ e (λ t p. let q : k ≡ n = cc in rw q at t) (λ t p. clash (cc))
 
-lowered : (l m n : ℕ) (t : Bool) → ltb l (suc m) ≡ t → Integers.moved l (negsuc m) ≡ Place.Is n → leb n 65535 ≡ true
+lowered : (l m n : ℕ) (t : Bool) → ltb l (suc m) ≡ t → Integers.moved l (negsuc m) ≡ Ok n → leb n 65535 ≡ true
 unfolding Integers.moved
-lowered l m n true p e = let r : Place.Refused no_such_cell ≡ Place.Is n = rw p at e in clash (cc)
+lowered l m n true p e = let r : Err NoSuchCell ≡ Ok n = rw p at e in clash (cc)
 lowered l m n false p e = placed (l - suc m) n (rw p at e)
 
-pub moved-well-formed : (l : ℕ) (z : ℤ) (n : ℕ) → Integers.moved l z ≡ Place.Is n → leb n 65535 ≡ true
+pub moved-well-formed : (l : ℕ) (z : ℤ) (n : ℕ) → Integers.moved l z ≡ Ok n → leb n 65535 ≡ true
 unfolding Integers.moved
 moved-well-formed l (pos m) n e = placed (l + m) n e
 moved-well-formed l (negsuc m) n e = lowered l m n (ltb l (suc m)) refl e

@@ -2,46 +2,30 @@
 ghost use Rattle.std.specs.Prelude.{◌≡◌};
 ghost use Rattle.std.specs.Float.{binary64};
 ghost use Rattle.std.specs.Float.Ieee as Ieee;
-ghost use Rattle.std.specs.Float.Ieee.Scale.{finite};
 ghost use Rattle.numbers.specs.Floats.{finitely, quotient};
 
-use value::refusals::{OUT_OF_RANGE, ZERO_DIVISOR};
-use value::wanted::Real;
+use value::refusals::Refusal;
 
-fn is_finite(x: f64) -> bool
-    ensures { result ≡ finite x }
-{
-    if x < f64::from_bits(0x7ff0_0000_0000_0000) {
-        f64::from_bits(0xfff0_0000_0000_0000) < x
-    } else {
-        false
-    }
-}
-
-#[tactic(auto, unfolding(crate::specs::Floats::finitely))]
-fn if_finite(x: f64) -> Real
+#[tactic(auto, using(laws::proofs::Floats::finite_is), unfolding(crate::specs::Floats::finitely))]
+fn if_finite(x: f64) -> Result<f64, Refusal>
     ensures { result ≡ finitely x }
 {
-    if is_finite(x) {
-        Real::Is(x)
-    } else {
-        Real::Refused(OUT_OF_RANGE)
-    }
+    x.is_finite().then_some(x).ok_or(Refusal::OutOfRange)
 }
 
-pub fn add(a: f64, b: f64) -> Real
+pub fn add(a: f64, b: f64) -> Result<f64, Refusal>
     ensures { result ≡ finitely (Ieee.add binary64 a b) }
 {
     if_finite(a + b)
 }
 
-pub fn sub(a: f64, b: f64) -> Real
+pub fn sub(a: f64, b: f64) -> Result<f64, Refusal>
     ensures { result ≡ finitely (Ieee.sub binary64 a b) }
 {
     if_finite(a - b)
 }
 
-pub fn mul(a: f64, b: f64) -> Real
+pub fn mul(a: f64, b: f64) -> Result<f64, Refusal>
     ensures { result ≡ finitely (Ieee.mul binary64 a b) }
 {
     if_finite(a * b)
@@ -49,24 +33,11 @@ pub fn mul(a: f64, b: f64) -> Real
 
 // A zero of either sign equals 0.0.
 #[tactic(auto, unfolding(crate::specs::Floats::quotient))]
-pub fn div(a: f64, b: f64) -> Real
+pub fn div(a: f64, b: f64) -> Result<f64, Refusal>
     ensures { result ≡ quotient a b }
 {
     if b == 0.0 {
-        Real::Refused(ZERO_DIVISOR)
-    } else {
-        if_finite(a / b)
+        return Err(Refusal::ZeroDivisor);
     }
-}
-
-pub fn less(a: f64, b: f64) -> bool
-    ensures { result ≡ Ieee.lt a b }
-{
-    a < b
-}
-
-pub fn equal(a: f64, b: f64) -> bool
-    ensures { result ≡ Ieee.eq a b }
-{
-    a == b
+    if_finite(a / b)
 }

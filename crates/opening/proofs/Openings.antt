@@ -8,12 +8,9 @@ use mathlib.Core.List.{List, [], ◌∷◌, ◌++◌}
 use lib.ListN.{length, get_or, set, take, drop, replicate, drop_of_length-le, length-set, length-replicate, replicate-append-replicate}
 use lib.Seq.{drop-cons, length-take-le}
 use lib.Dec.{leb, eqb}
-use borrow.Author.Tests.{eq-eqb, ne_eqb, eqb-true, le-leb, lt-leb, leb-true}
-use borrow.Table.Elements.{same_len}
 use Rattle.laws.specs.Lists.{all}
 use Rattle.laws.proofs.Absurd.{clash, below-zero}
-use Rattle.laws.proofs.Choice.{first, second, parted}
-use Rattle.image.specs.Records.{head_at}
+use Rattle.image.specs.Records.{whole_at}
 use Rattle.image.specs.Reading.{read_image, read_first}
 use Rattle.rules.specs.Claim.{Seat, Claim}
 use Rattle.rules.specs.Turn.{code_of}
@@ -21,9 +18,10 @@ use Rattle.rules.specs.Calls.{bare, Share, fair_share, total, may_open, opened}
 use Rattle.lent.specs.Runs.{wiped}
 use Rattle.laying.specs.Laid.{cell_tag, cell_word, head_number, acc_number, laid_book, laid_claim}
 use Rattle.laying.proofs.Spread.{spread-nil}
-use Rattle.state.specs.State.{State, state, filled, laid, is_long, long}
-use Rattle.state.proofs.Stands.{Enough, long-enough}
+use Rattle.state.specs.State.{State, state, filled, laid, long, Enough}
+use Rattle.state.proofs.Stands.{long-enough}
 use Rattle.calls.specs.Calls.{shares_in, moved, open_call}
+use Rattle.std.proofs.lemmas.Bool.Decides.{nat_tests}
 use Rattle.opening.specs.Opening.{shares_over}
 
 -- ---- shares read from a lent row
@@ -61,10 +59,6 @@ fair-start ns seats e =
     let z : 0 + total (shares_in ns) ≡ total (shares_in ns) = omega arith in
     record { two = e; within = omega arith; room = omega arith; same = rw z }
 
-never : (b : Bool) → (b && false) ≡ false
-never true = refl
-never false = refl
-
 module _ {ns : List ℕ} {seats sum k : ℕ} (v : FairLeft ns seats sum k) (l : k < seats)
     {fair : Bool} (f : fair ≡ fair_share (share_of (get_or ns (k + k) 0) (get_or ns (k + k + 1) 0))) where
   abbrev cells : ℕ
@@ -78,29 +72,26 @@ module _ {ns : List ℕ} {seats sum k : ℕ} (v : FairLeft ns seats sum k) (l : 
 
   pub not-fair : fair ≡ false → false ≡ (all fair_share (shares_in ns) && leb (total (shares_in ns)) 2048)
   unfolding fair_with all
-  not-fair e = sym (here ∙ rw (← f, e))
+  not-fair e = let z = here in grind (arith, nat_tests)
 
   pub no_room : 2048 - sum < cells → false ≡ (all fair_share (shares_in ns) && leb (total (shares_in ns)) 2048)
   unfolding fair_with total
-  no_room h =
-      let r = v.room in
-      let rest = shares_in (drop (k + 1 + (k + 1)) ns) in
-      sym (here ∙ rw (lt-leb (sum + (cells + total rest)) 2048 (omega arith)) (never (all fair_share (share_of cells threads ∷ rest))))
+  no_room h = let r = v.room in let z = here in grind (arith, nat_tests)
 
   pub fair-on : fair ≡ true → cells ≤ 2048 - sum → FairLeft ns seats (sum + cells) (k + 1)
   unfolding fair_with all total
   fair-on e h =
       let r = v.room in
-      let rest = shares_in (drop (k + 1 + (k + 1)) ns) in
-      let z : sum + (cells + total rest) ≡ sum + cells + total rest = omega arith in
-      record { two = v.two; within = omega arith; room = omega arith; same = here ∙ rw (← f, e, z) }
+      let z = here in
+      record { two = v.two; within = omega arith; room = omega arith; same = grind (arith, nat_tests) }
 
 pub fair-end : {ns : List ℕ} {seats sum k : ℕ} → FairLeft ns seats sum k → seats ≤ k → true ≡ (all fair_share (shares_in ns) && leb (total (shares_in ns)) 2048)
 unfolding fair_with all total
-fair-end {ns} {seats} {sum} {k} v h =
+fair-end v h =
     let e = v.two in
     let r = v.room in
-    sym (v.same ∙ rw (no-share ns k (omega arith), le-leb (sum + 0) 2048 (omega arith)))
+    let s = v.same in
+    grind (arith, nat_tests, no-share)
 
 -- two numbers a share
 count : (k : ℕ) (ns : List ℕ) → length ns ≡ k + k → length (shares_in ns) ≡ k
@@ -114,28 +105,8 @@ count (suc k) (c ∷ t ∷ ns) e = ap suc (count k ns (omega arith))
 abbrev May : List ℕ → Bool
 May ns = eqb (length ns % 2) 0 && may_open (shares_in ns)
 
-pub odd : (ns : List ℕ) → (length ns % 2 ≡ 0 → ⊥) → false ≡ May ns
-odd ns h = rw (ne_eqb (length ns % 2) 0 h)
-
-module _ (ns : List ℕ) (e : length ns % 2 ≡ 0) where
-  pub halves : length ns ≡ length ns / 2 + length ns / 2
-  halves = omega arith
-
-  seats-are : length (shares_in ns) ≡ length ns / 2
-  seats-are = count (length ns / 2) ns halves
-
-  pub too_few : length ns / 2 < 1 → false ≡ May ns
-  unfolding may_open
-  too_few h = rw (eq-eqb (length ns % 2) 0 e, seats-are, lt-leb 1 (length ns / 2) h)
-
-  module _ (few : 1 ≤ length ns / 2) where
-    pub too_many : 8 < length ns / 2 → false ≡ May ns
-    unfolding may_open
-    too_many h = rw (eq-eqb (length ns % 2) 0 e, seats-are, le-leb 1 (length ns / 2) few, lt-leb (length ns / 2) 8 h)
-
-    pub by-shares : length ns / 2 ≤ 8 → {r : Bool} → r ≡ (all fair_share (shares_in ns) && leb (total (shares_in ns)) 2048) → r ≡ May ns
-    unfolding may_open
-    by-shares h q = rw (eq-eqb (length ns % 2) 0 e, seats-are, le-leb 1 (length ns / 2) few, le-leb (length ns / 2) 8 h) q
+pub seats_are : (ns : List ℕ) → length ns % 2 ≡ 0 → length (shares_in ns) ≡ length ns / 2
+seats_are ns e = count (length ns / 2) ns (omega arith)
 
 -- ---- the shares written
 
@@ -166,16 +137,6 @@ pub shares-end : {ns b₀ b : List ℕ} {seats k : ℕ} → Shared ns b₀ b sea
 unfolding shares_over
 shares-end {ns} {b₀} {b} {seats} {k} v h = let e = v.two in sym (v.same ∙ rw (no-share ns k (omega arith)))
 
-shares-long : (k : ℕ) (ss : List Share) (b : List ℕ) → length (shares_over k ss b) ≡ length b
-unfolding shares_over
-shares-long k [] b = refl
-shares-long k (s ∷ ss) b = shares-long (k + 1) ss (set (set b (k * 9) s.cells) (k * 9 + 1) s.threads) ∙ rw (length-set, length-set)
-
--- the book is as long as it was
-pub book-long : (ss : List Share) {front exit : List ℕ} (b : List ℕ) → front ≡ wiped (take 72 b) → exit ≡ shares_over 0 ss (front ++ drop 72 b) → length exit ≡ length b
-unfolding wiped
-book-long ss b f e = rw (e, f) (shares-long 0 ss (replicate (length (take 72 b)) 0 ++ drop 72 b) ∙ same_len 72 b (replicate (length (take 72 b)) 0) (length-replicate (length (take 72 b)) 0))
-
 -- ---- what is written is the opened machine, laid out
 
 -- a seat's row of nine numbers passed over
@@ -196,7 +157,7 @@ module _ (x0 x1 x2 x3 x4 x5 x6 x7 x8 : ℕ) where
 
 -- what opening gives a seat, laid out
 bare-book : (s : Seat) → (laid_claim (bare s)).book ≡ s.cells ∷ s.threads ∷ 0 ∷ 0 ∷ 0 ∷ 0 ∷ 0 ∷ 0 ∷ 0 ∷ []
-unfolding laid_claim laid_book code_of read_image read_first head_at
+unfolding laid_claim laid_book code_of read_image read_first whole_at
 bare-book s = refl
 
 book-opened : (n l : ℕ) (ss : List Share) (rest : List ℕ) → length ss ≤ n
@@ -235,86 +196,45 @@ bare-opened f g e n l (s ∷ ss) h =
     let z : g seat + (n - g seat) ≡ n = omega arith in
     rw (e seat, length-replicate, bare-opened f g e (n - g seat) (l + s.cells) ss (omega arith), replicate-append-replicate {A = ℕ} (g seat) (n - g seat) 0, z)
 
-wiped-front : (n : ℕ) (l : List ℕ) → n ≤ length l → wiped (take n l) ≡ replicate n 0
+wiped-front : (n : ℕ) (l : List ℕ) → n ≤ length l → wiped 0 (take n l) ≡ replicate n 0
 unfolding wiped
 wiped-front n l h = rw (length-take-le n l h)
 
 -- ---- the call
 
-abbrev Long : State → Bool
-Long s = is_long (length s.book) (length s.tags) (length s.words) (length s.heads) (length s.accs) (length s.image)
-
--- the lengths' test is the state's
-long-is : (s : State) → long s ≡ Long s
-unfolding long
-long-is s = refl
-
-pub short : (s : State) (ns : List ℕ) → Long s ≡ false → open_call s ns ≡ moved 31 s
-unfolding open_call
-short s ns e = rw (long-is s, e)
-
-pub unfair : (s : State) (ns : List ℕ) → Long s ≡ true → (eqb (length ns % 2) 0 && may_open (shares_in ns)) ≡ false → open_call s ns ≡ moved 30 s
-unfolding open_call
-unfair s ns e o = rw (long-is s, e, o)
-
 pub pairs : (ns : List ℕ) → May ns ≡ true → (length ns ≡ length ns / 2 + length ns / 2) × (length ns / 2 ≤ 8)
 unfolding may_open
-pairs ns o =
-    parted (eqb (length ns % 2) 0) _ o λ z o.
-    parted (leb 1 (length (shares_in ns))) _ o λ _ o.
-    parted (leb (length (shares_in ns)) 8) _ o λ few _.
-    let e = eqb-true (length ns % 2) 0 z in
-    let a = leb-true (length (shares_in ns)) 8 few in
-    let b = seats-are ns e in
-    (halves ns e, omega arith)
+pairs ns o = grind (arith, nat_tests, seats_are)
 
--- each length
-pub record Each (b t w h a i : ℕ) : Type 0 where
-  pub book : 72 ≤ b
-  pub tags : 2048 ≤ t
-  pub words : 2048 ≤ w
-  pub heads : 256 ≤ h
-  pub accs : 256 ≤ a
-  pub images : 32768 ≤ i
-
-pub each : (book tags words heads accs images : ℕ) → is_long book tags words heads accs images ≡ true → Each book tags words heads accs images
-unfolding is_long
-each book tags words heads accs images e =
-    parted (leb 72 book) _ e λ a e.
-    parted (leb 2048 tags) _ e λ b e.
-    parted (leb 2048 words) _ e λ c e.
-    parted (leb 256 heads) _ e λ d e.
-    parted (leb 256 accs) _ e λ f g.
-    record { book = leb-true _ _ a; tags = leb-true _ _ b; words = leb-true _ _ c; heads = leb-true _ _ d; accs = leb-true _ _ f; images = leb-true _ _ g }
-
-module _ (s : State) (ns : List ℕ) (e : Long s ≡ true) (o : (eqb (length ns % 2) 0 && may_open (shares_in ns)) ≡ true) where
+module _ (s : State) (ns : List ℕ) (e : long s ≡ true) (o : (eqb (length ns % 2) 0 && may_open (shares_in ns)) ≡ true) where
   abbrev ss : List Share
   ss = shares_in ns
 
   pub enough : Enough s
-  enough = long-enough s (long-is s ∙ e)
+  enough = long-enough s e
 
   seats : length ss ≤ 8
-  seats = unfold may_open in leb-true _ _ (first (leb (length ss) 8) _ (second (leb 1 (length ss)) _ (second (eqb (length ns % 2) 0) _ o)))
+  unfolding may_open
+  seats = grind (arith, nat_tests)
 
   most : total ss ≤ 2048
-  most = unfold may_open in leb-true _ _ (second (all fair_share ss) _ (second (leb (length ss) 8) _ (second (leb 1 (length ss)) _ (second (eqb (length ns % 2) 0) _ o))))
+  unfolding may_open
+  most = grind (arith, nat_tests)
 
   -- a buffer of zeros, each seat having as many as g says
   zeros : (f : Claim → List ℕ) (g : Seat → ℕ) → ((s : Seat) → f (bare s) ≡ replicate (g s) 0) → (n : ℕ) (l : List ℕ) → n ≤ length l → taken g 0 ss ≤ n
-      → filled f n (opened 0 ss) ++ drop n l ≡ wiped (take n l) ++ drop n l
+      → filled f n (opened 0 ss) ++ drop n l ≡ wiped 0 (take n l) ++ drop n l
   zeros f g z n l h t = rw (wiped-front n l h, bare-opened f g z n 0 ss t)
 
-  pub opens : open_call s ns ≡ moved 0 (state (shares_over 0 ss (wiped (take 72 s.book) ++ drop 72 s.book)) (wiped (take 2048 s.tags) ++ drop 2048 s.tags)
-      (wiped (take 2048 s.words) ++ drop 2048 s.words) (wiped (take 256 s.heads) ++ drop 256 s.heads)
-      (wiped (take 256 s.accs) ++ drop 256 s.accs) (wiped (take 32768 s.image) ++ drop 32768 s.image))
+  pub opens : open_call s ns ≡ moved 0 (state (shares_over 0 ss (wiped 0 (take 72 s.book) ++ drop 72 s.book)) (wiped 0 (take 2048 s.tags) ++ drop 2048 s.tags)
+      (wiped 0 (take 2048 s.words) ++ drop 2048 s.words) (wiped 0 (take 256 s.heads) ++ drop 256 s.heads)
+      (wiped 0 (take 256 s.accs) ++ drop 256 s.accs) (wiped 0 (take 32768 s.image) ++ drop 32768 s.image))
   unfolding open_call laid
   opens =
       let n = enough in
       let a = seats in
       let b = most in
       rw (
-        long-is s,
         e,
         o,
         ← book-opened 8 0 ss (drop 72 s.book) a,
@@ -327,8 +247,9 @@ module _ (s : State) (ns : List ℕ) (e : Long s ≡ true) (o : (eqb (length ns 
       )
 
   -- each buffer's front wiped, and the shares written
-  pub goes : {front book : List ℕ} {tags words heads accs images : List ℕ} → front ≡ wiped (take 72 s.book) → book ≡ shares_over 0 ss (front ++ drop 72 s.book)
-      → tags ≡ wiped (take 2048 s.tags) → words ≡ wiped (take 2048 s.words) → heads ≡ wiped (take 256 s.heads) → accs ≡ wiped (take 256 s.accs)
-      → images ≡ wiped (take 32768 s.image)
-      → open_call s ns ≡ moved 0 (state book (tags ++ drop 2048 s.tags) (words ++ drop 2048 s.words) (heads ++ drop 256 s.heads) (accs ++ drop 256 s.accs) (images ++ drop 32768 s.image))
+  pub goes : {front book tags words heads accs images : List ℕ} → front ≡ wiped 0 (take 72 s.book) ++ drop 72 s.book → book ≡ shares_over 0 ss front
+      → tags ≡ wiped 0 (take 2048 s.tags) ++ drop 2048 s.tags → words ≡ wiped 0 (take 2048 s.words) ++ drop 2048 s.words
+      → heads ≡ wiped 0 (take 256 s.heads) ++ drop 256 s.heads → accs ≡ wiped 0 (take 256 s.accs) ++ drop 256 s.accs
+      → images ≡ wiped 0 (take 32768 s.image) ++ drop 32768 s.image
+      → open_call s ns ≡ moved 0 (state book tags words heads accs images)
   goes f b t w h a i = opens ∙ rw (b, f, t, w, h, a, i)

@@ -3,13 +3,13 @@
 
 ghost use Rattle.std.specs.Prelude.{◌≡◌};
 ghost use Rattle.rules.specs.Claim.{status_number};
+ghost use Rattle.rules.specs.Refused.{answered, answered_at};
 ghost use Rattle.state.specs.State.{state};
 ghost use Rattle.calls.specs.Calls as Calls;
 ghost use Rattle.portal.specs.Numbers.{kind_of, bits_of, told_as};
 
-use reporting::Reported;
-use rules::{Outcome, Status};
-use value::coding;
+use rules::{CallRefusal, Report, Status};
+use value::{Value, coding};
 
 // A load's answer: its number, and the place of a bad image.
 #[repr(C)]
@@ -34,6 +34,26 @@ pub struct Told {
     pub word: u64,
 }
 
+// The number that a call answers: 0 where it is not refused.
+fn number_of<T: Copy>(answer: Result<T, CallRefusal>) -> u8
+    ensures { result ≡ answered answer }
+{
+    match answer {
+        Ok(_) => 0,
+        Err(refusal) => u8::from(refusal),
+    }
+}
+
+// The place of a bad image, else 0.
+fn place_of<T: Copy>(answer: Result<T, CallRefusal>) -> u64
+    ensures { result ≡ answered_at answer }
+{
+    match answer {
+        Ok(_) => 0,
+        Err(refusal) => refusal.place() as u64,
+    }
+}
+
 #[tactic(auto, unfolding(rules::specs::Claim::status_number))]
 fn status_number(s: Status) -> u32
     ensures { result ≡ status_number s }
@@ -48,48 +68,40 @@ fn status_number(s: Status) -> u32
 }
 
 #[tactic(auto, unfolding(crate::specs::Numbers::kind_of, value::specs::Coding::encoded))]
-fn kind_of(o: Outcome) -> u32
-    ensures { result ≡ kind_of o }
+fn kind_of(result_of: Option<Value>) -> u32
+    ensures { result ≡ kind_of result_of }
 {
-    match o {
-        Outcome::Nothing => 0,
-        Outcome::Is(v) => {
-            let c = coding::encode(v);
-            c.tag as u32
-        }
+    match result_of {
+        None => 0,
+        Some(v) => u32::from(coding::encode(v).tag),
     }
 }
 
 #[tactic(auto, unfolding(crate::specs::Numbers::bits_of, value::specs::Coding::encoded))]
-fn bits_of(o: Outcome) -> u64
-    ensures { result ≡ bits_of o }
+fn bits_of(result_of: Option<Value>) -> u64
+    ensures { result ≡ bits_of result_of }
 {
-    match o {
-        Outcome::Nothing => 0,
-        Outcome::Is(v) => {
-            let c = coding::encode(v);
-            c.word
-        }
+    match result_of {
+        None => 0,
+        Some(v) => coding::encode(v).word,
     }
 }
 
 #[tactic(auto, unfolding(crate::specs::Numbers::told_as))]
-fn told_as(s: Reported) -> Told
-    ensures { result ≡ told_as (Calls.shown s.number s.report) }
+fn told_as(answer: Result<Report, CallRefusal>) -> Told
+    ensures { result ≡ told_as (Calls.shown (answered answer) (Calls.reported answer)) }
 {
-    let report = s.report;
-    let status = report.status;
-    let result = report.result;
+    let report = reporting::reported(answer);
     Told {
-        number: s.number as u32,
-        status: status_number(status),
-        refusal: report.refusal as u32,
-        position: report.position as u32,
+        number: u32::from(number_of(answer)),
+        status: status_number(report.status),
+        refusal: u32::from(report.refusal),
+        position: u32::from(report.position),
         used: report.used,
         live: report.live,
         steps: report.steps,
-        kind: kind_of(result),
-        word: bits_of(result),
+        kind: kind_of(report.result),
+        word: bits_of(report.result),
     }
 }
 
@@ -105,7 +117,7 @@ pub extern "C" fn lapisgable_open(
 ) -> u32
     ensures { Calls.open_call (state book.old tags.old words.old heads.old accs.old images.old) shares.now ≡ Calls.moved result (state book.new tags.new words.new heads.new accs.new images.new) }
 {
-    opening::open(book, tags, words, heads, accs, images, shares) as u32
+    u32::from(number_of(opening::open(book, tags, words, heads, accs, images, shares)))
 }
 
 #[unsafe(no_mangle)]
@@ -121,10 +133,10 @@ pub extern "C" fn lapisgable_load(
 ) -> Lodged
     ensures { Calls.load_call (state book.old tags.old words.old heads.old accs.old images.old) seat image.now ≡ Calls.loaded result.number result.place (state book.new tags.new words.new heads.new accs.new images.new) }
 {
-    let a = loading::load(book, tags, words, heads, accs, images, seat, image);
+    let answer = loading::load(book, tags, words, heads, accs, images, seat, image);
     Lodged {
-        number: a.number as u64,
-        place: a.place as u64,
+        number: u64::from(number_of(answer)),
+        place: place_of(answer),
     }
 }
 
@@ -141,7 +153,7 @@ pub extern "C" fn lapisgable_run(
 ) -> u32
     ensures { Calls.run_call (state book.old tags.old words.old heads.old accs.old images.now) schedule.now answers.old ≡ Calls.ran result (state book.new tags.new words.new heads.new accs.new images.now) answers.new }
 {
-    running::run(book, tags, words, heads, accs, images, schedule, answers) as u32
+    u32::from(number_of(running::run(book, tags, words, heads, accs, images, schedule, answers)))
 }
 
 #[unsafe(no_mangle)]
@@ -171,5 +183,5 @@ pub extern "C" fn lapisgable_clear(
 ) -> u32
     ensures { Calls.clear_call (state book.old tags.old words.old heads.old accs.old images.old) seat ≡ Calls.moved result (state book.new tags.new words.new heads.new accs.new images.new) }
 {
-    clearing::clear(book, tags, words, heads, accs, images, seat) as u32
+    u32::from(number_of(clearing::clear(book, tags, words, heads, accs, images, seat)))
 }

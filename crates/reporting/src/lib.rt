@@ -2,67 +2,51 @@
 #![tactic(auto)]
 
 ghost use Rattle.std.specs.Prelude.{◌≡◌};
-ghost use Rattle.rules.specs.Calls.{blank};
-ghost use Rattle.state.specs.State.{state, Stands, machine_of};
+ghost use Rattle.rules.specs.Refused.{answered};
+ghost use Rattle.state.specs.State.{state, state_of, Stands, machine_of};
 ghost use Rattle.calls.specs.Calls as Calls;
 
-use rules::{Outcome, Report, Status};
-use state::seats::Region;
+use rules::{CallRefusal, Report, Status};
+use state::whole::Lent;
 use state::{seats, whole};
 
-// A report's answer.
-#[derive(Clone, Copy)]
-pub struct Reported {
-    pub number: u8,
-    pub report: Report,
+// On a sound state.
+fn report_in(lent: Lent, seat: u32) -> Result<Report, CallRefusal>
+    requires { Stands (state_of lent) }
+    ensures { Calls.shown_in (machine_of (state_of lent.entry)) seat ≡ Calls.shown (answered result) (Calls.reported result) }
+{
+    let k = seat as usize;
+    let Some(region) = seats::region_of(lent.book, k) else {
+        return Err(CallRefusal::NoSuchSeat);
+    };
+    let a = region.start;
+    let e = region.end;
+    let b = k * 9;
+    let d = b + 9;
+    let h = k * 32;
+    let g = h + 32;
+    Ok(reports::report_seat(
+        &lent.book[b..d],
+        &lent.tags[a..e],
+        &lent.words[a..e],
+        &lent.heads[h..g],
+    ))
 }
 
-// A refused report: zeros, with no result.
+// What a report says; of a refused one zeros, with no result.
 #[tactic(auto, unfolding(rules::specs::Calls::blank))]
-fn blank_report() -> Report
-    ensures { result ≡ blank }
+pub fn reported(answer: Result<Report, CallRefusal>) -> Report
+    ensures { result ≡ Calls.reported answer }
 {
-    Report {
+    answer.unwrap_or(Report {
         status: Status::Vacant,
         refusal: 0,
         position: 0,
         used: 0,
         live: 0,
         steps: 0,
-        result: Outcome::Nothing,
-    }
-}
-
-// On a sound state.
-fn report_in(
-    book: &[u32],
-    tags: &[u16],
-    words: &[u64],
-    heads: &[u64],
-    accs: &[u64],
-    images: &[u8],
-    seat: u32,
-) -> Reported
-    requires { Stands (state book.now tags.now words.now heads.now accs.now images.now) }
-    ensures { Calls.shown_in (machine_of (state book.now tags.now words.now heads.now accs.now images.now)) seat ≡ Calls.shown result.number result.report }
-{
-    let k = seat as usize;
-    match seats::region_of(book, k) {
-        Region::Nowhere => Reported {
-            number: 20,
-            report: blank_report(),
-        },
-        Region::At(a, e) => {
-            let b = k * 9;
-            let d = b + 9;
-            let h = k * 32;
-            let g = h + 32;
-            Reported {
-                number: 0,
-                report: reports::report_seat(&book[b..d], &tags[a..e], &words[a..e], &heads[h..g]),
-            }
-        }
-    }
+        result: None,
+    })
 }
 
 // How the seat's claim stands.
@@ -74,14 +58,19 @@ pub fn report(
     accs: &[u64],
     images: &[u8],
     seat: u32,
-) -> Reported
-    ensures { Calls.report_call (state book.now tags.now words.now heads.now accs.now images.now) seat ≡ Calls.shown result.number result.report }
+) -> Result<Report, CallRefusal>
+    ensures { Calls.report_call (state book.now tags.now words.now heads.now accs.now images.now) seat ≡ Calls.shown (answered result) (Calls.reported result) }
 {
-    if !whole::is_sound(book, tags, words, heads, accs, images) {
-        return Reported {
-            number: 32,
-            report: blank_report(),
-        };
+    let lent = Lent {
+        book,
+        tags,
+        words,
+        heads,
+        accs,
+        images,
+    };
+    if !whole::is_sound(lent) {
+        return Err(CallRefusal::Unsound);
     }
-    report_in(book, tags, words, heads, accs, images, seat)
+    report_in(lent, seat)
 }

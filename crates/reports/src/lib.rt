@@ -1,51 +1,48 @@
 // One seat's report.
 #![tactic(auto)]
 
-ghost use Rattle.std.specs.Prelude.{◌≡◌, ◌%◌};
+ghost use Rattle.std.specs.Prelude.{◌≡◌};
 ghost use Rattle.reports.specs.Report.{standing, status_in, outcome_in, position_in, report_by, report_on};
 
 use book::Tally;
+use cells::Cells;
 use inspection::sound;
-use lent::get64;
-use rules::{Outcome, Report, Slot, Status};
-use threads::Found;
+use lent::get;
+use rules::{Report, Slot, Status};
+use threads::find_ready;
+use value::Value;
 
 #[tactic(auto, unfolding(crate::specs::Report::standing))]
-fn standing_of(n: Tally, f: Found) -> Status
-    ensures { result ≡ standing n f }
+fn standing_of(n: Tally, found: Result<usize, usize>) -> Status
+    ensures { result ≡ standing n found }
 {
-    match f {
-        Found::At(_) => Status::Running,
-        Found::Ready(_) => {
-            if n.live == 0 {
-                return Status::Finished;
-            }
-            Status::Deadlocked
-        }
+    match found {
+        Ok(_) => Status::Running,
+        Err(_) if n.live == 0 => Status::Finished,
+        Err(_) => Status::Deadlocked,
     }
 }
 
 #[tactic(auto, unfolding(crate::specs::Report::status_in))]
-fn status_of(n: Tally, f: Found) -> Status
-    ensures { result ≡ status_in n f }
+fn status_of(n: Tally, found: Result<usize, usize>) -> Status
+    ensures { result ≡ status_in n found }
 {
     if n.length == 0 {
-        return Status::Vacant;
+        Status::Vacant
+    } else if n.refusal == 0 {
+        standing_of(n, found)
+    } else {
+        Status::Refused
     }
-    if n.refusal == 0 {
-        return standing_of(n, f);
-    }
-    Status::Refused
 }
 
 #[tactic(auto, unfolding(crate::specs::Report::outcome_in))]
-fn outcome_of(s: Slot) -> Outcome
+fn outcome_of(s: Slot) -> Option<Value>
     ensures { result ≡ outcome_in s }
 {
     match s {
-        Slot::Missing => Outcome::Nothing,
-        Slot::Empty(_) => Outcome::Nothing,
-        Slot::Full(_, v) => Outcome::Is(v),
+        Slot::Full(_, v) => Some(v),
+        Slot::Missing | Slot::Empty(_) => None,
     }
 }
 
@@ -56,30 +53,27 @@ fn position_of(n: Tally, heads: &[u64]) -> u16
     if n.refusal == 0 {
         return 0;
     }
-    let halted = n.halted;
-    sound::position_of(get64(heads, halted as usize))
-}
-
-fn low8(x: u32) -> u8
-    ensures { result ≡ x % 256 }
-{
-    (x % 256) as u8
+    sound::position_of(get(heads, n.halted as usize, 0))
 }
 
 #[tactic(auto, unfolding(crate::specs::Report::report_by))]
 fn report_by(n: Tally, tags: &[u16], words: &[u64], heads: &[u64]) -> Report
     ensures { result ≡ report_by n tags.now words.now heads.now }
 {
-    let used = n.used;
-    let refusal = n.refusal;
+    let cells = Cells {
+        tags,
+        words,
+        used: n.used,
+        start: 0,
+    };
     Report {
-        status: status_of(n, threads::find_ready(heads, 0)),
-        refusal: low8(refusal),
+        status: status_of(n, find_ready(heads, 0)),
+        refusal: (n.refusal % 256) as u8,
         position: position_of(n, heads),
-        used,
+        used: n.used,
         live: n.live,
         steps: n.steps,
-        result: outcome_of(cells::look(tags, words, used, 0, 0)),
+        result: outcome_of(cells.look(0)),
     }
 }
 

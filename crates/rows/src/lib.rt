@@ -5,8 +5,8 @@ ghost use Rattle.std.specs.Prelude.{◌≡◌, take};
 ghost use Rattle.threads.specs.Row.{found_from};
 ghost use Rattle.rows.specs.Row.{thread_of, four_of, found_in};
 
-use lent::get64;
-use threads::{Found, low16};
+use lent::get;
+use threads::{Placed, fields, find_ready};
 
 // A head's four fields, from the low end.
 #[derive(Clone, Copy)]
@@ -17,40 +17,38 @@ pub struct Thread {
     pub tag: u16,
 }
 
-#[tactic(auto, unfolding(crate::specs::Row::thread_of))]
-fn thread_of(head: u64) -> Thread
-    ensures { result ≡ thread_of head }
-{
-    Thread {
-        place: low16(head),
-        position: low16(head / 0x1_0000),
-        frame: low16(head / 0x1_0000_0000),
-        tag: low16(head / 0x1_0000_0000_0000),
+impl From<u64> for Thread {
+    ghost from_gives = { λ head t. t ≡ thread_of head };
+
+    #[tactic(auto, unfolding(crate::specs::Row::thread_of))]
+    fn from(head: u64) -> Thread {
+        let [place, position, frame, tag] = fields(head);
+        Thread {
+            place,
+            position,
+            frame,
+            tag,
+        }
     }
 }
 
-// A search through the lent row: the pick-th ready record, or how many are ready.
-pub fn find_in(row: &[Thread], pick: usize) -> Found
+impl Placed for Thread {
+    ghost place = { λ t. t.place };
+
+    fn place(&self) -> u16 {
+        self.place
+    }
+}
+
+// A search through the lent row: the place of the pick-th ready record, or how many are ready.
+pub fn find_in(row: &[Thread], pick: usize) -> Result<usize, usize>
     ensures { result ≡ found_in pick 0 0 row.now }
 {
-    let mut left = row.len();
-    let mut i: usize = 0;
-    let mut ready: usize = 0;
-    while 0 < left {
-        if row[i].place == 1 {
-            if ready == pick {
-                return Found::At(i);
-            }
-            ready += 1;
-        }
-        i += 1;
-        left -= 1;
-    }
-    Found::Ready(ready)
+    find_ready(row, pick)
 }
 
 // The same on a row that is a local: it is lent whole.
-pub fn find_row(row: [Thread; 4], pick: usize) -> Found
+pub fn find_row(row: [Thread; 4], pick: usize) -> Result<usize, usize>
     ensures { result ≡ found_in pick 0 0 row }
 {
     find_in(&row, pick)
@@ -62,39 +60,38 @@ fn four(heads: &[u64]) -> [Thread; 4]
     ensures { result ≡ four_of heads.now }
 {
     [
-        thread_of(get64(heads, 0)),
-        thread_of(get64(heads, 1)),
-        thread_of(get64(heads, 2)),
-        thread_of(get64(heads, 3)),
+        Thread::from(get(heads, 0, 0)),
+        Thread::from(get(heads, 1, 0)),
+        Thread::from(get(heads, 2, 0)),
+        Thread::from(get(heads, 3, 0)),
     ]
 }
 
-// The pick-th ready record of heads, by way of the structs, four at a time.
-fn find(heads: &[u64], pick: usize) -> Found
+// The search through the first four heads, by way of the structs.
+#[tactic(auto, using(crate::proofs::Fours::four_answers))]
+fn find_four(heads: &[u64], pick: usize) -> Result<usize, usize>
+    ensures { result ≡ found_from pick 0 0 (take 4 heads.now) }
+{
+    find_row(four(heads), pick)
+}
+
+// The pick-th ready record of heads, four at a time.
+fn find(heads: &[u64], pick: usize) -> Result<usize, usize>
     ensures { result ≡ found_from pick 0 0 heads.now }
 {
-    let mut i: usize = 0;
     let mut before: usize = 0;
-    while i < heads.len() {
-        match find_row(four(&heads[i..]), pick - before) {
-            Found::At(k) => {
-                return Found::At(i + k);
-            }
-            Found::Ready(k) => {
-                before += k;
-            }
+    for i in (0..heads.len()).step_by(4) {
+        match find_four(&heads[i..], pick - before) {
+            Ok(k) => return Ok(i + k),
+            Err(k) => before += k,
         }
-        i += 4;
     }
-    Found::Ready(before)
+    Err(before)
 }
 
 // The pick-th ready record of the live ones.
-pub fn find_live(heads: &[u64], live: usize, pick: usize) -> Found
+pub fn find_live(heads: &[u64], live: usize, pick: usize) -> Result<usize, usize>
     ensures { result ≡ found_from pick 0 0 (take live heads.now) }
 {
-    if heads.len() <= live {
-        return find(heads, pick);
-    }
-    find(&heads[..live], pick)
+    find(&heads[..live.min(heads.len())], pick)
 }

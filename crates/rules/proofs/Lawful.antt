@@ -1,7 +1,6 @@
--- What an instruction may do: fill an empty cell of its own kind, wait on an empty cell, empty a full M-cell, be refused by a number 1 to 9, or leave the cells alone. Assumes nothing.
+-- What an instruction may do: fill an empty cell of its own kind, wait on an empty cell, empty a full M-cell, be refused, or leave the cells alone. Assumes nothing.
 use Prim.Native.Nat.{ℕ, ◌+◌}
 use native.Mathlib.Nat.{add-zero}
-use mathlib.Core.Bool.{true}
 use mathlib.Core.Path.{◌≡◌, refl, sym, ap, ◌∙◌}
 use lib.ListN.{length}
 use lib.Dec.{leb, eqb}
@@ -9,19 +8,20 @@ use Rattle.laws.proofs.Choice.{either_way}
 use Rattle.value.specs.declared.Value.{Value}
 use Rattle.kinds.specs.declared.Instruction.{Instruction}
 use Rattle.kinds.specs.declared.Instruction.TheVariants as I
-use Rattle.image.specs.declared.records.Fetched.{Fetched}
+use Rattle.std.specs.Prelude.{Option, Some, None, Result, Ok, Err}
+use Rattle.value.specs.declared.refusals.Refusal.{Refusal}
+use Rattle.numbers.specs.Integers.{moved}
 use Rattle.rules.specs.declared.Kind.{Kind}
 use Rattle.rules.specs.declared.Kind.TheVariants.{Icell, Mcell}
 use Rattle.rules.specs.declared.Slot.{Slot}
-use Rattle.rules.specs.declared.Held.{Held}
 use Rattle.rules.specs.declared.Thread.{Thread}
 use Rattle.rules.specs.declared.Effect.{Effect}
 use Rattle.rules.specs.declared.Effect.TheVariants.{Goes, Ends, Waits, Fills, Empties, Makes, Spawns, Refuses}
-use Rattle.rules.specs.Tests.{value_in, location_of, integer_of, Test, ◌>>=◌, value, whole, place}
-use Rattle.rules.specs.Decide.{if_full, if_empty, gives, fetches, stores, makes, allocates, decide}
+use Rattle.rules.specs.Tests.{value_in, location_of, integer_of, truth_of, size_of, ◌>>=◌}
+use Rattle.rules.specs.Decide.{with_first, if_full, if_empty, gives, fetches, stores, makes, allocates, decide}
 use Rattle.rules.specs.Claim.{Claim, look, view, room}
 use Rattle.rules.specs.Turn.{decided, effect_at}
-use Rattle.rules.proofs.Numbered.{nine, Numbered, passes, fails, slot-numbered, location-numbered, truth-numbered, integer-numbered, size-numbered, moved-numbered, binary-numbered, Finds, holds, lacks, neither, finds}
+use Rattle.rules.proofs.Numbered.{Finds, holds, lacks, neither, finds}
 
 module _ (c : Claim) where
   pub data Lawful : Effect → Type 0 where
@@ -32,33 +32,30 @@ module _ (c : Claim) where
     empties : {l : ℕ} {v : Value} {t : Thread} → look c l ≡ Slot.Full Mcell v → Lawful (Empties t l)
     makes-some : {k : Kind} {n : ℕ} {t : Thread} → Lawful (Makes t k n)
     spawns : {new t : Thread} → Lawful (Spawns t new)
-    refuses : {n : ℕ} → nine n ≡ true → Lawful (Refuses n)
+    refuses : {r : Refusal} → Lawful (Refuses r)
 
-  bind : {A : Type 0} {t : Test A} {f : A → Effect} → Numbered t → ((a : A) → Lawful (f a)) → Lawful (t >>= f)
-  bind (passes {a = a}) k = k a
-  bind (fails e) k = refuses e
+  bind : {A : Type 0} (t : Result A Refusal) {f : A → Effect} → ((a : A) → Lawful (f a)) → Lawful (t >>= f)
+  bind (Ok a) k = k a
+  bind (Err r) k = refuses
 
-  full-lawful : {k : Kind} {s : Slot} {h : Held} {f : Value → Effect} {e : Effect} → Finds k s h → ((v : Value) → s ≡ Slot.Full k v → Lawful (f v)) → (s ≡ Slot.Empty k → Lawful e) → Lawful (if_full f e h)
+  full-lawful : {k : Kind} {s : Slot} {h : Result (Option Value) Refusal} {f : Value → Effect} {e : Effect} → Finds k s h → ((v : Value) → s ≡ Slot.Full k v → Lawful (f v)) → (s ≡ Slot.Empty k → Lawful e) → Lawful (if_full f e h)
   unfolding if_full
   full-lawful (holds {v = v}) g w = g v refl
   full-lawful lacks g w = w refl
-  full-lawful (neither e) g w = refuses e
+  full-lawful neither g w = refuses
 
-  empty-lawful : {k : Kind} {s : Slot} {h : Held} {e : Effect} → Finds k s h → (s ≡ Slot.Empty k → Lawful e) → Lawful (if_empty e h)
+  empty-lawful : {k : Kind} {s : Slot} {h : Result (Option Value) Refusal} {e : Effect} → Finds k s h → (s ≡ Slot.Empty k → Lawful e) → Lawful (if_empty e h)
   unfolding if_empty
-  empty-lawful holds g = refuses refl
+  empty-lawful holds g = refuses
   empty-lawful lacks g = g refl
-  empty-lawful (neither e) g = refuses e
+  empty-lawful neither g = refuses
 
   module _ (after : ℕ) (th : Thread) where
-    slot : (s : ℕ) → Numbered (value (value_in (look c (th.frame + s))))
-    slot s = slot-numbered _
+    abbrev slot : ℕ → Result Value Refusal
+    slot s = value_in (look c (th.frame + s))
 
-    location : (s : ℕ) → Numbered (place (location_of (value_in (look c (th.frame + s)))))
-    location s = location-numbered _ (slot s)
-
-    integer : (s : ℕ) → Numbered (whole (integer_of (value_in (look c (th.frame + s)))))
-    integer s = integer-numbered _ (slot s)
+    abbrev location : ℕ → Result ℕ Refusal
+    location s = location_of (slot s)
 
     gives-lawful : (k : Kind) (l : ℕ) (v : Value) → look c l ≡ Slot.Full k v → Lawful (gives after (view c) th k l v)
     unfolding gives
@@ -75,7 +72,7 @@ module _ (c : Claim) where
 
     allocates-lawful : (k : Kind) (s : ℕ) → Lawful (allocates after (view c) th k s)
     unfolding allocates makes
-    allocates-lawful k s = bind (size-numbered _ (integer s)) λ n. makes-some
+    allocates-lawful k s = bind (size_of (integer_of (slot s))) λ n. makes-some
 
     pub decide-lawful : (i : Instruction) → Lawful (decide after (view c) th i)
     unfolding decide makes
@@ -99,9 +96,9 @@ module _ (c : Claim) where
     decide-lawful (I.Frame n) = makes-some
     decide-lawful (I.Spawn a) = spawns
     decide-lawful (I.Apply a s) = bind (location s) λ l. spawns
-    decide-lawful (I.Binary o s t) = bind (binary-numbered o _ _ (slot s) (slot t)) λ v. goes
-    decide-lawful (I.Offset s t) = bind (location s) λ l. bind (integer t) λ z. bind (moved-numbered l z) λ m. goes
-    decide-lawful (I.Switch s a b) = bind (truth-numbered _ (slot s)) λ b. goes
+    decide-lawful (I.Binary o s t) = bind (with_first o (slot s) (slot t)) λ v. goes
+    decide-lawful (I.Offset s t) = bind (location s) λ l. bind (integer_of (slot t)) λ z. bind (moved l z) λ m. goes
+    decide-lawful (I.Switch s a b) = bind (truth_of (slot s)) λ b. goes
 
   room-lawful : {e : Effect} → Lawful e → Lawful (room c e)
   unfolding room
@@ -110,14 +107,14 @@ module _ (c : Claim) where
   room-lawful (waits e) = waits e
   room-lawful (fills e) = fills e
   room-lawful (empties e) = empties e
-  room-lawful (makes-some {n = n}) = either_way Lawful (leb (length c.cells + n) c.seat.cells) (λ _. makes-some) (λ _. refuses refl)
-  room-lawful spawns = either_way Lawful (eqb (length c.row) c.seat.threads) (λ _. refuses refl) (λ _. spawns)
-  room-lawful (refuses e) = refuses e
+  room-lawful (makes-some {n = n}) = either_way Lawful (leb (length c.cells + n) c.seat.cells) (λ _. makes-some) (λ _. refuses)
+  room-lawful spawns = either_way Lawful (eqb (length c.row) c.seat.threads) (λ _. refuses) (λ _. spawns)
+  room-lawful refuses = refuses
 
-  decided-lawful : (f : Fetched) (th : Thread) → Lawful (decided f (view c) th)
+  decided-lawful : (f : Option (Instruction × ℕ)) (th : Thread) → Lawful (decided f (view c) th)
   unfolding decided
-  decided-lawful (Fetched.Is i after) th = decide-lawful after th i
-  decided-lawful Fetched.Nothing th = ends
+  decided-lawful (Some (i, after)) th = decide-lawful after th i
+  decided-lawful None th = ends
 
   pub effect-lawful : (i : ℕ) → Lawful (effect_at c i)
   unfolding effect_at

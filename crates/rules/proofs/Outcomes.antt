@@ -8,9 +8,10 @@ use borrow.Author.Tests.{leb-true, ltb-true, not-false}
 use Rattle.laws.specs.Lists.{is_none}
 use Rattle.laws.proofs.Absurd.{clash}
 use Rattle.laws.proofs.Choice.{either_way}
-use Rattle.image.specs.declared.reader.Verdict.{Verdict}
-use Rattle.image.specs.declared.reader.Verdict.TheVariants.{TooLong, BadAt, Good}
-use Rattle.image.specs.Reading.{number_of, read_image}
+use Rattle.std.specs.Prelude.{Ok, Err}
+use Rattle.image.specs.declared.reader.Layout.{Layout}
+use Rattle.image.specs.declared.reader.Fault.TheVariants.{TooLong, BadAt}
+use Rattle.image.specs.Reading.{Verdict, number_of, read_image}
 use Rattle.rules.specs.declared.Effect.{Effect}
 use Rattle.rules.specs.declared.Effect.TheVariants.{Goes, Ends, Waits, Fills, Empties, Makes, Spawns, Refuses}
 use Rattle.rules.specs.declared.Status.{Status}
@@ -61,13 +62,13 @@ module _ (c : Claim) where
   -- refused, or loaded into a vacant seat
   pub data Loads (image : List ℕ) : Loading → Type 0 where
     rejects : {n p : ℕ} → eqb n 0 ≡ false → Loads image (loading c n p)
-    accepts : {r n code : ℕ} → is_none c.image ≡ true → read_image image ≡ Good r n code → r ≤ c.seat.cells → Loads image (loading (loaded c.seat image r n) 0 0)
+    accepts : {g : Layout} → is_none c.image ≡ true → read_image image ≡ Ok g → g.slots ≤ c.seat.cells → Loads image (loading (loaded c.seat image g.slots g.inputs) 0 0)
 
   loads-by : (image : List ℕ) (v : Verdict) → is_none c.image ≡ true → read_image image ≡ v → Loads image (load_by c image v)
   unfolding load_by number_of
-  loads-by image TooLong e f = rejects refl
-  loads-by image (BadAt p) e f = rejects refl
-  loads-by image (Good r n code) e f = either_way (Loads image) (leb r c.seat.cells) (λ h. accepts e f (leb-true r c.seat.cells h)) (λ _. rejects refl)
+  loads-by image (Err TooLong) e f = rejects refl
+  loads-by image (Err (BadAt p)) e f = rejects refl
+  loads-by image (Ok g) e f = either_way (Loads image) (leb g.slots c.seat.cells) (λ h. accepts e f (leb-true g.slots c.seat.cells h)) (λ _. rejects refl)
 
   pub loads : (image : List ℕ) → Loads image (load c image)
   unfolding load

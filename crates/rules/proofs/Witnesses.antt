@@ -6,7 +6,7 @@ use mathlib.Core.List.{List, [], ◌∷◌, ◌++◌}
 use lib.IntN.{pos}
 use Rattle.laws.proofs.Absurd.{clash}
 use Rattle.value.specs.declared.Value.TheVariants.{Integer}
-use Rattle.rules.specs.declared.Outcome.TheVariants.{Nothing, Is}
+use Rattle.std.specs.Prelude.{Some, None}
 use Rattle.rules.specs.declared.Report.{Report}
 use Rattle.rules.specs.declared.Status.TheVariants.{Finished}
 use Rattle.rules.specs.Calls.{Machine, message, loads, placed, tell, after, entries, opening, claim_at, report}
@@ -34,11 +34,11 @@ pub some-finish : (reported 7 0 (0 ∷ 0 ∷ 0 ∷ 0 ∷ 0 ∷ 0 ∷ [])).status
 unfolding compute adds two reported
 some-finish = refl
 
-pub some_result : (reported 7 0 (0 ∷ 0 ∷ 0 ∷ 0 ∷ 0 ∷ 0 ∷ [])).result ≡ Is (Integer (pos 12))
+pub some_result : (reported 7 0 (0 ∷ 0 ∷ 0 ∷ 0 ∷ 0 ∷ 0 ∷ [])).result ≡ Some (Integer (pos 12))
 unfolding compute adds two reported
 some_result = refl
 
-pub another-result : (reported 8 0 (0 ∷ 0 ∷ 0 ∷ 0 ∷ 0 ∷ 0 ∷ [])).result ≡ Is (Integer (pos 13))
+pub another-result : (reported 8 0 (0 ∷ 0 ∷ 0 ∷ 0 ∷ 0 ∷ 0 ∷ [])).result ≡ Some (Integer (pos 13))
 unfolding compute adds two reported
 another-result = refl
 
@@ -46,11 +46,11 @@ pub results-differ : (reported 7 0 (0 ∷ 0 ∷ 0 ∷ 0 ∷ 0 ∷ 0 ∷ [])).res
 results-differ e = clash (cc (some_result, another-result))
 
 -- the second entry to the same seat
-pub first_entry : ((reported 7 0 (0 ∷ 0 ∷ [])).steps ≡ 1) × ((reported 7 0 (0 ∷ 0 ∷ [])).result ≡ Nothing)
+pub first_entry : ((reported 7 0 (0 ∷ 0 ∷ [])).steps ≡ 1) × ((reported 7 0 (0 ∷ 0 ∷ [])).result ≡ None)
 unfolding compute adds two reported
 first_entry = (refl, refl)
 
-pub second-entry : ((reported 7 0 (0 ∷ 0 ∷ 0 ∷ 0 ∷ [])).steps ≡ 2) × ((reported 7 0 (0 ∷ 0 ∷ 0 ∷ 0 ∷ [])).result ≡ Is (Integer (pos 12)))
+pub second-entry : ((reported 7 0 (0 ∷ 0 ∷ 0 ∷ 0 ∷ [])).steps ≡ 2) × ((reported 7 0 (0 ∷ 0 ∷ 0 ∷ 0 ∷ [])).result ≡ Some (Integer (pos 12)))
 unfolding compute adds two reported
 second-entry = (refl, refl)
 

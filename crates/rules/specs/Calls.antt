@@ -1,16 +1,13 @@
 -- Document 01: open, load, run, report and clear, as what is said to seats and what they answer. Assumes nothing.
-use Rattle.std.specs.Prelude.{ℕ, ◌+◌, ◌-◌, Bool, ◌&&◌, List, [], ◌∷◌, ◌++◌, map, length, get_or, set, replicate, leb, ltb, eqb}
+use Rattle.std.specs.Prelude.{ℕ, Option, Some, None, Ok, Err, ◌+◌, ◌-◌, Bool, ◌&&◌, List, [], ◌∷◌, ◌++◌, map, length, get_or, set, replicate, leb, ltb, eqb}
 use Rattle.std.specs.Prelude.{if◌then◌else◌}
 use Rattle.laws.specs.Lists.{all, is_none}
 use Rattle.value.specs.declared.Value.{Value}
 use Rattle.value.specs.declared.Value.TheVariants.{Nil}
-use Rattle.image.specs.declared.reader.Verdict.{Verdict}
-use Rattle.image.specs.declared.reader.Verdict.TheVariants.{TooLong, BadAt, Good}
 use Rattle.image.specs.Records.{inputs}
-use Rattle.image.specs.Reading.{read_image, number_of, place_of}
+use Rattle.image.specs.Reading.{Verdict, read_image, number_of, place_of}
 use Rattle.rules.specs.declared.Kind.TheVariants.{Icell}
 use Rattle.rules.specs.declared.Status.TheVariants.{Vacant}
-use Rattle.rules.specs.declared.Outcome.{Outcome}
 use Rattle.rules.specs.declared.Report.{Report}
 use Rattle.rules.specs.Decide.{thread}
 use Rattle.rules.specs.Claim.{Seat, Claim, Cell, empty, full, readied, thread_at, status_of}
@@ -49,9 +46,8 @@ loading c n p = record { claim = c; number = n; place = p }
 
 -- "22, 23, 24: image over 4,096 bytes; bad image, with place; r over the cell share"
 unfoldable pub load_by : Claim → List ℕ → Verdict → Loading
-load_by c image TooLong = loading c (number_of TooLong) (place_of TooLong)
-load_by c image (BadAt p) = loading c (number_of (BadAt p)) (place_of (BadAt p))
-load_by c image (Good r n code) = if leb r c.seat.cells then loading (loaded c.seat image r n) 0 0 else loading c 24 0
+load_by c image (Err f) = loading c (number_of (Err f)) (place_of (Err f))
+load_by c image (Ok g) = if leb g.slots c.seat.cells then loading (loaded c.seat image g.slots g.inputs) 0 0 else loading c 24 0
 
 -- "21: load: not vacant"
 unfoldable pub load : Claim → List ℕ → Loading
@@ -62,10 +58,10 @@ unfoldable pub clear : Claim → Turned
 clear c = if is_none c.image then record { claim = c; answer = 35 } else record { claim = bare c.seat; answer = 0 }
 
 -- "The claim's result is cell 0 of that frame, if full."
-unfoldable pub result_of : List Cell → Outcome
-result_of [] = Outcome.Nothing
-result_of (empty k ∷ cs) = Outcome.Nothing
-result_of (full k v ∷ cs) = Outcome.Is v
+unfoldable pub result_of : List Cell → Option Value
+result_of [] = None
+result_of (empty k ∷ cs) = None
+result_of (full k v ∷ cs) = Some v
 
 -- "A report gives status, refusal, position, cells used, live threads, steps, result; position and refusal are 0 unless refused."
 unfoldable pub report : Claim → Report
@@ -82,7 +78,7 @@ report c =
 
 -- "Refused reports are zeros with result none, and so is a vacant seat's."
 unfoldable pub blank : Report
-blank = record { status = Vacant; refusal = 0; position = 0; used = 0; live = 0; steps = 0; result = Outcome.Nothing }
+blank = record { status = Vacant; refusal = 0; position = 0; used = 0; live = 0; steps = 0; result = None }
 
 -- ---- what can be said to a seat, and what is answered
 

@@ -2,7 +2,7 @@
 use Rattle.std.specs.Prelude.{ℕ, suc, true, false, List, [], ◌∷◌, ◌++◌, map, replicate, pos}
 use Rattle.value.specs.declared.Value.TheVariants.{Integer, Boolean, Nil, Location}
 use Rattle.rules.specs.declared.Status.TheVariants.{Vacant, Running, Finished, Deadlocked, Refused}
-use Rattle.rules.specs.declared.Outcome.TheVariants.{Nothing, Is}
+use Rattle.std.specs.Prelude.{Some, None}
 use Rattle.rules.specs.Decide.{thread}
 use Rattle.rules.specs.Claim.{Claim, Live, readied}
 use Rattle.rules.specs.Calls.{Share, message, loads, picks, asks, clears, number, placed, told, blank}
@@ -184,9 +184,9 @@ unfoldable pub own : List Sheet
 own =
     -- a region that does not start at 0: seat 1 at 4, seat 7 at 14
     sheet (share 4 2 ∷ share 8 2 ∷ []) (message 1 (loads own-frame) ∷ turns 1 (0 ∷ 0 ∷ 0 ∷ []))
-    (ok (0 ∷ 0 ∷ 1 ∷ []) ∷ status 1 Finished ∷ result 1 (Is (Location 4)) ∷ status 0 Vacant ∷ [])
+    (ok (0 ∷ 0 ∷ 1 ∷ []) ∷ status 1 Finished ∷ result 1 (Some (Location 4)) ∷ status 0 Vacant ∷ [])
     ∷ sheet eight (message 7 (loads own-frame) ∷ turns 7 (0 ∷ 0 ∷ 0 ∷ []))
-    (ok (0 ∷ 0 ∷ 1 ∷ []) ∷ status 7 Finished ∷ result 7 (Is (Location 14)) ∷ [])
+    (ok (0 ∷ 0 ∷ 1 ∷ []) ∷ status 7 Finished ∷ result 7 (Some (Location 14)) ∷ [])
     -- one below its region, the neighbour vacant and full
     ∷ sheet (share 4 2 ∷ share 8 2 ∷ []) (message 1 (loads step-below) ∷ turns 1 (0 ∷ 0 ∷ 0 ∷ 0 ∷ 0 ∷ []))
     (ok (0 ∷ 0 ∷ 0 ∷ 0 ∷ 3 ∷ []) ∷ refused-at 1 1 8 ∷ [])
@@ -204,7 +204,7 @@ own =
     ∷ usual halting (0 ∷ 0 ∷ 0 ∷ 1 ∷ []) (ok (0 ∷ 3 ∷ 5 ∷ 5 ∷ []) ∷ status 0 Refused ∷ refused-at 0 3 3 ∷ steps 0 2 ∷ live 0 2 ∷ order 0 (3 ∷ 6 ∷ []) ∷ [])
     -- the other seat goes on where one is refused
     ∷ sheet (share 8 4 ∷ share 8 4 ∷ []) (message 0 (loads halting) ∷ message 1 (loads own-frame) ∷ turns 0 (0 ∷ 0 ∷ []) ++ turns 1 (0 ∷ []) ++ turns 0 (0 ∷ []) ++ turns 1 (0 ∷ 0 ∷ []))
-    (answers (placed 0 0 ∷ placed 0 0 ∷ map number (0 ∷ 3 ∷ 0 ∷ 5 ∷ 0 ∷ 1 ∷ [])) ∷ status 0 Refused ∷ status 1 Finished ∷ result 1 (Is (Location 8)) ∷ [])
+    (answers (placed 0 0 ∷ placed 0 0 ∷ map number (0 ∷ 3 ∷ 0 ∷ 5 ∷ 0 ∷ 1 ∷ [])) ∷ status 0 Refused ∷ status 1 Finished ∷ result 1 (Some (Location 8)) ∷ [])
     -- woken among other ready threads: newest first, at the back
     ∷ usual waking (0 ∷ 0 ∷ 0 ∷ 1 ∷ 2 ∷ 0 ∷ 0 ∷ []) (ok (0 ∷ 0 ∷ 0 ∷ 2 ∷ 2 ∷ 0 ∷ 0 ∷ []) ∷ order 0 (12 ∷ 16 ∷ 20 ∷ 15 ∷ []) ∷ live 0 4 ∷ [])
     -- newest is who waited last, wherever it stood
@@ -216,25 +216,25 @@ own =
     ∷ sheet (share 8 2 ∷ []) (message 0 (loads spawning) ∷ turns 0 (0 ∷ 1 ∷ 0 ∷ 0 ∷ 0 ∷ [])) (ok (0 ∷ 1 ∷ 0 ∷ 1 ∷ 1 ∷ []) ∷ status 0 Finished ∷ live 0 0 ∷ steps 0 5 ∷ [])
     ∷ sheet (share 8 2 ∷ []) (message 0 (loads spawning) ∷ turns 0 (0 ∷ 0 ∷ [])) (ok (0 ∷ 3 ∷ []) ∷ refused-at 0 8 3 ∷ live 0 2 ∷ [])
     -- APPLY on a made frame, and GET that waits for it
-    ∷ usual applying (0 ∷ 0 ∷ 0 ∷ 0 ∷ 0 ∷ 0 ∷ 1 ∷ 1 ∷ 0 ∷ 0 ∷ []) (ok (0 ∷ 0 ∷ 0 ∷ 2 ∷ 0 ∷ 0 ∷ 0 ∷ 0 ∷ 1 ∷ 1 ∷ []) ∷ status 0 Finished ∷ result 0 (Is (Boolean true)) ∷ used 0 4 ∷ steps 0 10 ∷ [])
+    ∷ usual applying (0 ∷ 0 ∷ 0 ∷ 0 ∷ 0 ∷ 0 ∷ 1 ∷ 1 ∷ 0 ∷ 0 ∷ []) (ok (0 ∷ 0 ∷ 0 ∷ 2 ∷ 0 ∷ 0 ∷ 0 ∷ 0 ∷ 1 ∷ 1 ∷ []) ∷ status 0 Finished ∷ result 0 (Some (Boolean true)) ∷ used 0 4 ∷ steps 0 10 ∷ [])
     -- FRAME into the last cells
     ∷ usual (image 2 [] (0x0E ∷ 6 ∷ 0x00 ∷ [])) (0 ∷ 0 ∷ []) (ok (0 ∷ 1 ∷ []) ∷ status 0 Finished ∷ used 0 8 ∷ [])
     -- SWITCH: true to a, false to b
     ∷ usual (switching yes) (0 ∷ []) (ok (0 ∷ []) ∷ order 0 (6 ∷ []) ∷ [])
     ∷ usual (switching (0x83 ∷ 0 ∷ [])) (0 ∷ []) (ok (0 ∷ []) ∷ order 0 (9 ∷ []) ∷ [])
     -- TOUCH of an empty cell drops the accumulator too, and the thread goes on behind it
-    ∷ usual touching (0 ∷ 1 ∷ 1 ∷ 0 ∷ 0 ∷ 1 ∷ []) (ok (0 ∷ 0 ∷ 2 ∷ 0 ∷ 0 ∷ 0 ∷ []) ∷ result 0 (Is Nil) ∷ order 0 (6 ∷ 20 ∷ []) ∷ [])
+    ∷ usual touching (0 ∷ 1 ∷ 1 ∷ 0 ∷ 0 ∷ 1 ∷ []) (ok (0 ∷ 0 ∷ 2 ∷ 0 ∷ 0 ∷ 0 ∷ []) ∷ result 0 (Some Nil) ∷ order 0 (6 ∷ 20 ∷ []) ∷ [])
     -- STORE and SPAWN keep the accumulator
-    ∷ usual (image 2 [] (0x01 ∷ 5 ∷ 0 ∷ 0 ∷ 0 ∷ 0 ∷ 0 ∷ 0 ∷ 0 ∷ 0x07 ∷ 1 ∷ 0x18 ∷ 16 ∷ 0 ∷ 0x07 ∷ 0 ∷ 0x00 ∷ [])) (0 ∷ 0 ∷ 0 ∷ 0 ∷ []) (ok (0 ∷ 0 ∷ 0 ∷ 0 ∷ []) ∷ result 0 (Is (Integer (pos 5))) ∷ live 0 2 ∷ [])
+    ∷ usual (image 2 [] (0x01 ∷ 5 ∷ 0 ∷ 0 ∷ 0 ∷ 0 ∷ 0 ∷ 0 ∷ 0 ∷ 0x07 ∷ 1 ∷ 0x18 ∷ 16 ∷ 0 ∷ 0x07 ∷ 0 ∷ 0x00 ∷ [])) (0 ∷ 0 ∷ 0 ∷ 0 ∷ []) (ok (0 ∷ 0 ∷ 0 ∷ 0 ∷ []) ∷ result 0 (Some (Integer (pos 5))) ∷ live 0 2 ∷ [])
     -- LESS and EQUAL give booleans; EQUAL of two booleans; 0.0 equals -0.0
-    ∷ usual (image 3 (i 3 ++ i 5) (0x14 ∷ 1 ∷ 2 ∷ 0x07 ∷ 0 ∷ 0x00 ∷ [])) (0 ∷ 0 ∷ []) (result 0 (Is (Boolean true)) ∷ [])
-    ∷ usual (image 3 (yes ++ 0x83 ∷ 0 ∷ []) (0x15 ∷ 1 ∷ 2 ∷ 0x07 ∷ 0 ∷ 0x00 ∷ [])) (0 ∷ 0 ∷ []) (result 0 (Is (Boolean false)) ∷ [])
-    ∷ usual (image 3 (none ++ 0x82 ∷ 0 ∷ 0 ∷ 0 ∷ 0 ∷ 0 ∷ 0 ∷ 0 ∷ 0x80 ∷ []) (0x15 ∷ 1 ∷ 2 ∷ 0x07 ∷ 0 ∷ 0x00 ∷ [])) (0 ∷ 0 ∷ []) (result 0 (Is (Boolean true)) ∷ [])
+    ∷ usual (image 3 (i 3 ++ i 5) (0x14 ∷ 1 ∷ 2 ∷ 0x07 ∷ 0 ∷ 0x00 ∷ [])) (0 ∷ 0 ∷ []) (result 0 (Some (Boolean true)) ∷ [])
+    ∷ usual (image 3 (yes ++ 0x83 ∷ 0 ∷ []) (0x15 ∷ 1 ∷ 2 ∷ 0x07 ∷ 0 ∷ 0x00 ∷ [])) (0 ∷ 0 ∷ []) (result 0 (Some (Boolean false)) ∷ [])
+    ∷ usual (image 3 (none ++ 0x82 ∷ 0 ∷ 0 ∷ 0 ∷ 0 ∷ 0 ∷ 0 ∷ 0 ∷ 0x80 ∷ []) (0x15 ∷ 1 ∷ 2 ∷ 0x07 ∷ 0 ∷ 0x00 ∷ [])) (0 ∷ 0 ∷ []) (result 0 (Some (Boolean true)) ∷ [])
     -- DIV toward zero: -1 DIV 2 is 0
-    ∷ usual (image 3 (minus_one ++ i 2) (0x13 ∷ 1 ∷ 2 ∷ 0x07 ∷ 0 ∷ 0x00 ∷ [])) (0 ∷ 0 ∷ []) (result 0 (Is (Integer (pos 0))) ∷ [])
+    ∷ usual (image 3 (minus_one ++ i 2) (0x13 ∷ 1 ∷ 2 ∷ 0x07 ∷ 0 ∷ 0x00 ∷ [])) (0 ∷ 0 ∷ []) (result 0 (Some (Integer (pos 0))) ∷ [])
     -- nothing is no nil: the result cell is empty, and then nil
-    ∷ usual (image 1 [] (0x04 ∷ 0x07 ∷ 0 ∷ 0x00 ∷ [])) (0 ∷ []) (result 0 Nothing ∷ [])
-    ∷ usual (image 1 [] (0x04 ∷ 0x07 ∷ 0 ∷ 0x00 ∷ [])) (0 ∷ 0 ∷ []) (result 0 (Is Nil) ∷ [])
+    ∷ usual (image 1 [] (0x04 ∷ 0x07 ∷ 0 ∷ 0x00 ∷ [])) (0 ∷ []) (result 0 None ∷ [])
+    ∷ usual (image 1 [] (0x04 ∷ 0x07 ∷ 0 ∷ 0x00 ∷ [])) (0 ∷ 0 ∷ []) (result 0 (Some Nil) ∷ [])
     -- loads: 20; 23 before 24; 24; 22 before 23; then one that goes through, and 21 before all but 20
     ∷ sheet (share 8 4 ∷ [])
     (message 1 (loads (idle 1)) ∷ message 0 (loads (0x80 ∷ 9 ∷ 0x85 ∷ [])) ∷ message 0 (loads (idle 9)) ∷ message 0 (loads (replicate 4097 0)) ∷ message 0 (loads (idle 8))

@@ -9,3 +9,4 @@ pub mod Further
 pub mod Unsound
 pub mod History
 pub mod Events
+pub mod Refused

@@ -1,10 +1,10 @@
 -- Document 01, "Worked sheets": what a sheet is, and W1 to W9 in one table. Assumes nothing.
 use Rattle.std.specs.Prelude.{ℕ, List, [], ◌∷◌, ◌++◌, map, pos}
+use Rattle.value.specs.declared.Value.{Value}
 use Rattle.value.specs.declared.Value.TheVariants.{Integer, Nil}
 use Rattle.rules.specs.declared.Status.{Status}
 use Rattle.rules.specs.declared.Status.TheVariants.{Finished, Deadlocked, Refused}
-use Rattle.rules.specs.declared.Outcome.{Outcome}
-use Rattle.rules.specs.declared.Outcome.TheVariants.{Is}
+use Rattle.std.specs.Prelude.{Option, Some}
 use Rattle.rules.specs.Claim.{keep, is_ready}
 use Rattle.rules.specs.Calls.{Share, Message, message, picks, loads, Reply, number, placed, after, replies, opened, claim_at, report}
 
@@ -13,7 +13,7 @@ use Rattle.rules.specs.Calls.{Share, Message, message, picks, loads, Reply, numb
 pub data Fact : Type 0 where
   answers : List Reply → Fact
   status : ℕ → Status → Fact
-  result : ℕ → Outcome → Fact
+  result : ℕ → Option Value → Fact
   refused-at : ℕ → ℕ → ℕ → Fact
   steps used live : ℕ → ℕ → Fact
   order : ℕ → List ℕ → Fact
@@ -71,7 +71,7 @@ unfoldable pub worked : List Sheet
 worked =
     -- W1
     usual (0x80 ∷ 3 ∷ 0x81 ∷ int 5 ++ 0x81 ∷ int 7 ++ 0x85 ∷ 0x10 ∷ 1 ∷ 2 ∷ 0x07 ∷ 0 ∷ 0x00 ∷ []) (0 ∷ 0 ∷ 0 ∷ [])
-    (ok (0 ∷ 0 ∷ 1 ∷ []) ∷ status 0 Finished ∷ result 0 (Is (Integer (pos 12))) ∷ steps 0 3 ∷ [])
+    (ok (0 ∷ 0 ∷ 1 ∷ []) ∷ status 0 Finished ∷ result 0 (Some (Integer (pos 12))) ∷ steps 0 3 ∷ [])
     -- W2, seat 1 vacant, and full
     ∷ sheet (share 4 4 ∷ share 4 4 ∷ []) (message 0 (loads w2) ∷ turns 0 (0 ∷ 0 ∷ 0 ∷ 0 ∷ 0 ∷ []))
     (ok (0 ∷ 0 ∷ 0 ∷ 0 ∷ 3 ∷ []) ∷ status 0 Refused ∷ refused-at 0 1 8 ∷ [])
@@ -87,7 +87,7 @@ worked =
     (ok (0 ∷ 0 ∷ 2 ∷ 2 ∷ 0 ∷ 0 ∷ []) ∷ order 0 (9 ∷ 15 ∷ 12 ∷ []) ∷ [])
     -- W6
     ∷ usual (0x80 ∷ 2 ∷ 0x84 ∷ 0x85 ∷ 0x01 ∷ int 5 ++ 0x05 ∷ 1 ∷ 0x07 ∷ 0 ∷ 0x00 ∷ []) (0 ∷ 0 ∷ 0 ∷ 0 ∷ [])
-    (status 0 Finished ∷ result 0 (Is Nil) ∷ [])
+    (status 0 Finished ∷ result 0 (Some Nil) ∷ [])
     -- W7
     ∷ usual (0x80 ∷ 2 ∷ 0x81 ∷ int 1 ++ 0x85 ∷ 0x09 ∷ 1 ∷ 0x07 ∷ 0 ∷ 0x0C ∷ 0 ∷ 0x00 ∷ []) (0 ∷ 0 ∷ 0 ∷ [])
     (ok (0 ∷ 0 ∷ 2 ∷ []) ∷ status 0 Deadlocked ∷ used 0 3 ∷ [])

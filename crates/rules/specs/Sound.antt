@@ -1,11 +1,9 @@
 -- Document 01: "A state is sound exactly if ..", one test a clause, of claims. Assumes nothing.
-use Rattle.std.specs.Prelude.{ℕ, ◌+◌, ◌^◌, Bool, true, false, ◌&&◌, List, [], ◌∷◌, map, length, get_or, leb, ltb, eqb}
+use Rattle.std.specs.Prelude.{ℕ, Ok, Err, ◌+◌, ◌^◌, Bool, true, false, ◌&&◌, List, [], ◌∷◌, map, length, get_or, leb, ltb, eqb}
 use Rattle.std.specs.Prelude.{if◌then◌else◌}
 use Rattle.laws.specs.Lists.{all, is_none}
 use Rattle.value.specs.Range.{well_formed}
-use Rattle.image.specs.declared.reader.Verdict.{Verdict}
-use Rattle.image.specs.declared.reader.Verdict.TheVariants.{TooLong, BadAt, Good}
-use Rattle.image.specs.Reading.{read_image, start}
+use Rattle.image.specs.Reading.{Verdict, read_image, start}
 use Rattle.rules.specs.declared.Slot.{Slot}
 use Rattle.rules.specs.declared.Slot.TheVariants.{Missing, Empty, Full}
 use Rattle.rules.specs.Claim.{Claim, Cell, empty, full, Place, ready, on, Live, look, is_ready, nobody}
@@ -41,12 +39,11 @@ refusal_sound c =
 
 -- "images pass the reader; used cells lie between r and the share; ..; live threads fit"
 unfoldable pub claim_sound : Claim → Verdict → Bool
-claim_sound c TooLong = false
-claim_sound c (BadAt p) = false
-claim_sound c (Good r n code) =
+claim_sound c (Err f) = false
+claim_sound c (Ok g) =
     all (λ b. ltb b 256) c.image
-    && (leb r (length c.cells) && (leb (length c.cells) c.seat.cells
-    && (all cell_sound c.cells && (all (live_sound c code) c.row
+    && (leb g.slots (length c.cells) && (leb (length c.cells) c.seat.cells
+    && (all cell_sound c.cells && (all (live_sound c g.code) c.row
     && (leb (length c.row) c.seat.threads && (refusal_sound c && ltb c.steps (2 ^ 32)))))))
 
 -- "vacant seats are bare"

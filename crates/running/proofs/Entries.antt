@@ -116,18 +116,18 @@ module _ (schedule answers₀ : List ℕ) (s₀ : State) (n : ℕ) where
         answers = refl;
       }
 
-  pub run-goes-on : {i r : ℕ} {s s' : State} {a : List ℕ} → Reached i s a → i < n
-      → said_to (machine_of s) s (get_or schedule (i + i) 0) (picks (get_or schedule (i + i + 1) 0)) ≡ moved r s' → AsLong s s' → Reached (i + 1) s' (set a i r)
-  run-goes-on {i} {r} {s} {s'} {a} v h e l =
+  pub run-goes-on : {i r x : ℕ} {s s' : State} {a : List ℕ} → Reached i s a → i < n
+      → said_to (machine_of s) s (get_or schedule (i + i) 0) (picks (get_or schedule (i + i + 1) 0)) ≡ moved r s' → x ≡ r → AsLong s s' → Reached (i + 1) s' (set a i x)
+  run-goes-on {i} {x = x} {s} {s'} {a} v h e q l =
       let b = v.entries in
       let d = v.room in
-      let z = length-set a i r in
+      let z = length-set a i x in
       record {
         below = omega arith;
         entries = b;
         room = omega arith;
         stands = stands-then v.stands _ _ e;
-        same = v.same ∙ left-on schedule a i v.stands (omega arith) (omega arith) e;
+        same = v.same ∙ left-on schedule a i v.stands (omega arith) (omega arith) (rw q e);
         kept = as-long-on v.kept l;
         answers = z ∙ v.answers;
       }

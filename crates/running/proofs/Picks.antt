@@ -4,6 +4,7 @@ use native.Mathlib.Omega.{arith}
 use mathlib.Core.Path.{◌≡◌, refl, ap, sym, ◌∙◌}
 use mathlib.Core.List.{List}
 use lib.ListN.{length, get_or, drop, take-append-drop}
+use Rattle.std.specs.Prelude.{Some}
 use Rattle.rules.specs.Claim.{Claim}
 use Rattle.rules.specs.Turn as Rules
 use Rattle.rules.specs.Calls.{picks, hear, absent, number_in}
@@ -15,9 +16,10 @@ use Rattle.turn.specs.Turn.{turn_on}
 use Rattle.tying.specs.Tied.{parts_of}
 use Rattle.tying.proofs.Turns.{turn-same}
 use Rattle.state.specs.State.{State, state, machine_of, Stands}
-use Rattle.state.specs.Seats.{cut, splice}
+use Rattle.state.specs.declared.seats.Region.{Region}
+use Rattle.state.specs.Seats.{region_in, cut, splice}
 use Rattle.state.proofs.Pieces.{claim_of, from, to, SeatAt, seat-at}
-use Rattle.state.proofs.Regions.{RegionAt}
+use Rattle.state.proofs.Regions.{RegionAt, region_at}
 use Rattle.calls.specs.Calls.{Moved, moved, said_to}
 use Rattle.calls.proofs.Said.{said-nowhere, said_here}
 
@@ -80,12 +82,31 @@ picked {s} t {k} pick g {l} r q =
     let r' : l ≡ length (claim_of s k).image = r ∙ (seat-at t k g.seat).image in
     rw (g.starts, g.ends) (picked-there t k g.seat pick ∙ ap (put_back s k (from s k) (to s k)) (rw (g.starts, g.ends, r') at q))
 
--- the image of a seat that there is lies within its part
-pub image-inside : {s : State} (t : Stands s) {k a e : ℕ} → RegionAt s k a e → {l : ℕ} → l ≡ get_or s.book (k * 9 + 2) 0 → k * 4096 + l ≤ length s.image
-image-inside {s} t {k} g {l} r =
-    let z = seat-at t k g.seat in
-    let a = z.image in
-    let b = z.fit.image in
-    let d = z.few in
-    let f = z.lengths.image in
-    omega arith
+-- the parts of a turn of seat k lie in the buffers
+pub record Within (s : State) (k : ℕ) (g : Region) : Type 0 where
+  pub order : g.start ≤ g.end
+  pub most : g.end ≤ 2048
+  pub book : k * 9 + 9 ≤ length s.book
+  pub tags : g.end ≤ length s.tags
+  pub words : g.end ≤ length s.words
+  pub heads : k * 32 + 32 ≤ length s.heads
+  pub accs : k * 32 + 32 ≤ length s.accs
+  pub image : k * 4096 + get_or s.book (k * 9 + 2) 0 ≤ length s.image
+
+pub within : {s : State} (t : Stands s) {k : ℕ} {g : Region} → region_in s.book k ≡ Some g → Within s k g
+within t {k} e =
+    let r = region_at t e in
+    let z = seat-at t k r.seat in
+    let l = r.lengths in
+    let p = z.image in
+    let q = z.fit.image in
+    record {
+      order = omega arith;
+      most = omega arith;
+      book = omega arith;
+      tags = omega arith;
+      words = omega arith;
+      heads = omega arith;
+      accs = omega arith;
+      image = omega arith;
+    }

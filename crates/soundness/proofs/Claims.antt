@@ -6,27 +6,26 @@ use mathlib.Core.List.{List, [], ◌∷◌}
 use lib.ListN.{length}
 use lib.Dec.{leb, ltb}
 use borrow.Author.Tests.{leb-true, ltb-true, le-leb, lt-ltb}
+use Rattle.std.specs.Prelude.{Ok, Err}
 use Rattle.laws.specs.Lists.{all, is_none}
-use Rattle.laws.proofs.Absurd.{clash}
+use Rattle.laws.proofs.Absurd.{clash, below-zero}
 use Rattle.laws.proofs.Choice.{both, parted}
 use Rattle.laws.proofs.Every.{All, tested, passes, all-also, all-get-or}
 use Rattle.value.specs.Range.{well_formed}
-use Rattle.image.specs.declared.reader.Verdict.{Verdict}
-use Rattle.image.specs.declared.reader.Verdict.TheVariants.{TooLong, BadAt, Good}
-use Rattle.image.specs.Records.{head_at}
-use Rattle.image.specs.Reading.{read_image, read_first, start}
+use Rattle.image.specs.declared.reader.Layout.{Layout}
+use Rattle.image.specs.Reading.{Verdict, read_image, start}
 use Rattle.image.specs.Promise.{Promise}
 use Rattle.image.proofs.Promise.{promised}
 use Rattle.rules.specs.declared.Thread.{Thread}
 use Rattle.rules.specs.Claim.{Seat, Claim, Live, readied}
 use Rattle.rules.specs.Sound.{cell_sound, place_sound, live_sound, refusal_sound, claim_sound, seat_sound}
-use Rattle.soundness.proofs.Tests.{Ok, Near}
+use Rattle.soundness.proofs.Tests.{Formed, Near}
 use Rattle.soundness.proofs.Cells.{CellsSound}
 
 -- a thread that stands at an instruction
 pub record Runs (image : List ℕ) (code : ℕ) (t : Thread) : Type 0 where
   pub frame : Near t.frame
-  pub acc : Ok t.acc
+  pub acc : Formed t.acc
   pub at : start image code t.position ≡ true
 
 pub record Stands (c : Claim) (code : ℕ) (t : Live) : Type 0 where
@@ -54,27 +53,27 @@ pub record Roomy (s : Seat) : Type 0 where
   pub threads : 1 ≤ s.threads
 
 -- what the reader promises of an image that it accepted
-pub promise : (l : List ℕ) {r n code : ℕ} → all (λ b. ltb b 256) l ≡ true → read_image l ≡ Good r n code → Promise l r n code
+pub promise : (l : List ℕ) {g : Layout} → all (λ b. ltb b 256) l ≡ true → read_image l ≡ Ok g → Promise l g.slots g.inputs g.code
 promise l b e = promised l (λ i. ltb-true _ 256 (all-get-or i 0 (tested (λ b. ltb b 256) l b) refl)) _ _ _ e
 
-pub record Sound (c : Claim) (r code : ℕ) : Type 0 where
+pub record Sound (c : Claim) (g : Layout) : Type 0 where
   pub bytes : all (λ b. ltb b 256) c.image ≡ true
-  pub slots : r ≤ length c.cells
+  pub slots : g.slots ≤ length c.cells
   pub used : length c.cells ≤ c.seat.cells
   pub cells : CellsSound c.cells
-  pub row : All (Stands c code) c.row
+  pub row : All (Stands c g.code) c.row
   pub live : length c.row ≤ c.seat.threads
   pub refusal : refusal_sound c ≡ true
   pub steps : c.steps < 2 ^ 32
 
-pub facts : (c : Claim) (r n code : ℕ) → claim_sound c (Good r n code) ≡ true → Sound c r code
+facts : (c : Claim) (g : Layout) → claim_sound c (Ok g) ≡ true → Sound c g
 unfolding claim_sound
-facts c r n code e =
+facts c g e =
     parted (all (λ b. ltb b 256) c.image) _ e λ bytes e.
-    parted (leb r (length c.cells)) _ e λ slots e.
+    parted (leb g.slots (length c.cells)) _ e λ slots e.
     parted (leb (length c.cells) c.seat.cells) _ e λ used e.
     parted (all cell_sound c.cells) _ e λ cells e.
-    parted (all (live_sound c code) c.row) _ e λ row e.
+    parted (all (live_sound c g.code) c.row) _ e λ row e.
     parted (leb (length c.row) c.seat.threads) _ e λ live e.
     parted (refusal_sound c) _ e λ refusal steps.
     record {
@@ -82,42 +81,39 @@ facts c r n code e =
       slots = leb-true _ _ slots;
       used = leb-true _ _ used;
       cells = tested cell_sound c.cells cells;
-      row = all-also (stands c code) (tested (live_sound c code) c.row row);
+      row = all-also (stands c g.code) (tested (live_sound c g.code) c.row row);
       live = leb-true _ _ live;
       refusal = refusal;
       steps = ltb-true _ _ steps;
     }
 
-claim-sound : (c : Claim) (r n code : ℕ) → Sound c r code → claim_sound c (Good r n code) ≡ true
+claim-sound : (c : Claim) (g : Layout) → Sound c g → claim_sound c (Ok g) ≡ true
 unfolding claim_sound
-claim-sound c r n code s =
+claim-sound c g s =
     both s.bytes (both (le-leb _ _ s.slots) (both (le-leb _ _ s.used)
-    (both (passes cell_sound s.cells) (both (passes (live_sound c code) (all-also (stands-sound c code) s.row))
+    (both (passes cell_sound s.cells) (both (passes (live_sound c g.code) (all-also (stands-sound c g.code) s.row))
     (both (le-leb _ _ s.live) (both s.refusal (lt-ltb _ _ s.steps)))))))
 
 -- a good image is not empty, so its seat is not vacant
-in_use : (image : List ℕ) (r n code : ℕ) → read_image image ≡ Good r n code → is_none image ≡ false
-unfolding read_image read_first head_at
-in_use [] r n code e = clash (cc)
-in_use (b ∷ image) r n code e = refl
+in_use : (image : List ℕ) {g : Layout} → read_image image ≡ Ok g → is_none image ≡ false
+unfolding all
+in_use [] e = below-zero _ (promise [] refl e).inside
+in_use (b ∷ image) e = refl
 
-pub seated : (c : Claim) (r n code : ℕ) → read_image c.image ≡ Good r n code → Sound c r code → seat_sound c ≡ true
+pub seated : (c : Claim) {g : Layout} → read_image c.image ≡ Ok g → Sound c g → seat_sound c ≡ true
 unfolding seat_sound
-seated c r n code e s = rw (in_use c.image r n code e, e) (claim-sound c r n code s)
+seated c {g} e s = rw (in_use c.image e, e) (claim-sound c g s)
 
 -- what is known of a sound seat that is not vacant
 pub record InUse (c : Claim) : Type 0 where
-  pub r : ℕ
-  pub n : ℕ
-  pub code : ℕ
-  pub reads : read_image c.image ≡ Good r n code
-  pub sound : Sound c r code
+  pub layout : Layout
+  pub reads : read_image c.image ≡ Ok layout
+  pub sound : Sound c layout
 
 pub used-seat : (c : Claim) → is_none c.image ≡ false → seat_sound c ≡ true → InUse c
 unfolding seat_sound
 used-seat c u s = by (read_image c.image) refl (rw u at s)
   where
     by : (v : Verdict) → read_image c.image ≡ v → claim_sound c v ≡ true → InUse c
-    by TooLong e s = unfold claim_sound in clash (cc)
-    by (BadAt p) e s = unfold claim_sound in clash (cc)
-    by (Good r n code) e s = record { r = r; n = n; code = code; reads = e; sound = facts c r n code s }
+    by (Ok g) e s = record { layout = g; reads = e; sound = facts c g s }
+    by (Err f) e s = unfold claim_sound in clash (cc)

@@ -12,6 +12,8 @@ use Rattle.laws.proofs.Absurd.{clash}
 use Rattle.laws.proofs.Choice.{both, parted}
 use Rattle.laws.proofs.Every.{All, all_set, all_append, all_snoc, all_replicate, all-also}
 use Rattle.value.specs.declared.Value.{Value}
+use Rattle.value.specs.Refusals.{refusal_number}
+use Rattle.image.specs.declared.reader.Layout.{Layout}
 use Rattle.rules.specs.declared.Kind.TheVariants.{Mcell}
 use Rattle.rules.specs.declared.Slot.TheVariants.{Full}
 use Rattle.rules.specs.declared.Thread.{Thread}
@@ -19,7 +21,7 @@ use Rattle.rules.specs.declared.Effect.{Effect}
 use Rattle.rules.specs.declared.Effect.TheVariants.{Refuses}
 use Rattle.rules.specs.Claim.{Claim, Cell, empty, full, Place, ready, on, Live, put, is_on, waits_on, without, wake, readied, waiting, stepped, perform}
 use Rattle.rules.specs.Sound.{cell_sound, is_empty, place_sound, refusal_sound}
-use Rattle.rules.proofs.Numbered.{nine}
+use Rattle.rules.proofs.Numbered.{numbered}
 use Rattle.rules.proofs.Lawful.{Lawful, goes, ends, waits, fills, empties, makes-some, spawns, refuses}
 use Rattle.soundness.proofs.Cells.{CellsSound, EmptyIn, length-put, put-sound, still-empty, empty-beside, empty-more}
 use Rattle.soundness.proofs.Rows.{Picked, length-wake, all-wake, length_without, all_without}
@@ -41,9 +43,9 @@ elsewhere c d l k (on m) n e = k m (λ q. off q n) e
     off : m ≡ l → not (eqb l m) ≡ true → ⊥
     off q n = clash (let e = eq-eqb l m (sym q) in cc)
 
-module _ (c : Claim) (r code : ℕ) (s : Sound c r code) (calm : eqb c.refusal 0 ≡ true) (i : ℕ) (picked : Picked c.row i) (more : suc c.steps < 2 ^ 32) where
-  onward : (cells : List Cell) (row : List Live) → length c.cells ≤ length cells → length cells ≤ c.seat.cells → CellsSound cells → All (Stands (stepped c cells row) code) row
-      → length row ≤ c.seat.threads → Sound (stepped c cells row) r code
+module _ (c : Claim) (g : Layout) (s : Sound c g) (calm : eqb c.refusal 0 ≡ true) (i : ℕ) (picked : Picked c.row i) (more : suc c.steps < 2 ^ 32) where
+  onward : (cells : List Cell) (row : List Live) → length c.cells ≤ length cells → length cells ≤ c.seat.cells → CellsSound cells → All (Stands (stepped c cells row) g.code) row
+      → length row ≤ c.seat.threads → Sound (stepped c cells row) g
   unfolding refusal_sound
   onward cells row grown used whole stand live =
       record {
@@ -57,27 +59,27 @@ module _ (c : Claim) (r code : ℕ) (s : Sound c r code) (calm : eqb c.refusal 0
         steps = more;
       }
 
-  kept : (cells : List Cell) (row : List Live) → ((l : ℕ) → EmptyIn c l → EmptyIn (stepped c cells row) l) → All (Stands c code) row → All (Stands (stepped c cells row) code) row
+  kept : (cells : List Cell) (row : List Live) → ((l : ℕ) → EmptyIn c l → EmptyIn (stepped c cells row) l) → All (Stands c g.code) row → All (Stands (stepped c cells row) g.code) row
   kept cells row k h = all-also (λ t q. record { runs = q.runs; place = place_kept c (stepped c cells row) k t.place q.place }) h
 
-  same : (row : List Live) → All (Stands c code) row → length row ≤ c.seat.threads → Sound (stepped c c.cells row) r code
+  same : (row : List Live) → All (Stands c g.code) row → length row ≤ c.seat.threads → Sound (stepped c c.cells row) g
   same row h live = onward c.cells row (omega arith) s.used s.cells (kept c.cells row (λ l e. still-empty c l e _ refl refl) h) live
 
-  refilled : (l : ℕ) (x : Cell) (row : List Live) → cell_sound x ≡ true → All (Stands (stepped c (put c l x) row) code) row → length row ≤ c.seat.threads
-      → Sound (stepped c (put c l x) row) r code
+  refilled : (l : ℕ) (x : Cell) (row : List Live) → cell_sound x ≡ true → All (Stands (stepped c (put c l x) row) g.code) row → length row ≤ c.seat.threads
+      → Sound (stepped c (put c l x) row) g
   refilled l x row p h live = onward (put c l x) row (rw length-put (omega arith)) (rw length-put s.used) (put-sound c l x s.cells p) h live
 
   -- the thread that ran, ready in its place
   abbrev ran : Thread → List Live
   ran t = set c.row i (readied t)
 
-  ran-stands : {t : Thread} → Runs c.image code t → All (Stands c code) (ran t)
+  ran-stands : {t : Thread} → Runs c.image g.code t → All (Stands c g.code) (ran t)
   ran-stands o = all_set i _ s.row (is-ready c o)
 
   ran-live : (t : Thread) → length (ran t) ≤ c.seat.threads
   ran-live t = rw length-set s.live
 
-  pub performed : {e : Effect} → Lawful c e → Keeps c code e → Sound (perform e i c) r code
+  pub performed : {e : Effect} → Lawful c e → Keeps c g e → Sound (perform e i c) g
   unfolding perform
   performed (goes {t = t}) o = same (ran t) (ran-stands o) (ran-live t)
   performed ends o = same (without c.row i) (all_without i s.row) (omega (arith, length_without c.row i picked.within, s.live))
@@ -86,7 +88,7 @@ module _ (c : Claim) (r code : ℕ) (s : Sound c r code) (calm : eqb c.refusal 0
       (all_snoc (all_without i s.row) (unfold place_sound is_empty in record { runs = o; place = rw e }))
       (rw length-append (omega (arith, length_without c.row i picked.within, s.live)))
   performed (fills {k = k} {l = l} {v = v} {t = t} e) o =
-      refilled l (full k v) row (unfold cell_sound in o.0) (all-wake {P = Stands c code} l stays (λ u q. is-ready d q.runs) (ran-stands o.1)) (rw length-wake (ran-live t))
+      refilled l (full k v) row (unfold cell_sound in o.0) (all-wake {P = Stands c g.code} l stays (λ u q. is-ready d q.runs) (ran-stands o.1)) (rw length-wake (ran-live t))
     where
       row : List Live
       row = wake l (ran t)
@@ -94,7 +96,7 @@ module _ (c : Claim) (r code : ℕ) (s : Sound c r code) (calm : eqb c.refusal 0
       d : Claim
       d = stepped c (put c l (full k v)) row
 
-      stays : (u : Live) → Stands c code u → not (is_on l u) ≡ true → Stands d code u
+      stays : (u : Live) → Stands c g.code u → not (is_on l u) ≡ true → Stands d g.code u
       stays u q n =
           record { runs = q.runs; place = elsewhere c d l (λ m n f. empty-beside c m f l (full k v) row (λ z. clash (cc)) n) u.place (unfold is_on in n) q.place }
   performed (empties {l = l} {t = t} e) o =
@@ -109,7 +111,7 @@ module _ (c : Claim) (r code : ℕ) (s : Sound c r code) (calm : eqb c.refusal 0
       (ran-live t)
   performed (spawns {new = new} {t = t}) o =
       same (ran t ++ readied new ∷ []) (all_snoc (ran-stands o.1.1) (is-ready c o.1.0)) (rw (length-append, length-set) (omega (arith, o.0)))
-  performed (refuses {n = n} h) o =
+  performed (refuses {r = r}) o =
       record {
         bytes = s.bytes;
         slots = s.slots;
@@ -117,12 +119,12 @@ module _ (c : Claim) (r code : ℕ) (s : Sound c r code) (calm : eqb c.refusal 0
         cells = s.cells;
         row = all-also (λ t q. record { runs = q.runs; place = place_kept c _ (λ l e. still-empty c l e _ refl refl) t.place q.place }) s.row;
         live = s.live;
-        refusal = refused n h;
+        refusal = refused;
         steps = more;
       }
     where
-      refused : (n : ℕ) → nine n ≡ true → refusal_sound (perform (Refuses n) i c) ≡ true
-      refused n h =
+      refused : refusal_sound (perform (Refuses r) i c) ≡ true
+      refused =
           unfold refusal_sound perform in
-          parted (leb 1 n) (leb n 9) h λ low high.
-          rw (ne_eqb n 0 (λ z. omega (arith, leb-true 1 n low))) (both high (both (lt-ltb i (length c.row) picked.within) picked.ready))
+          parted (leb 1 (refusal_number r)) _ (numbered r) λ low high.
+          rw (ne_eqb (refusal_number r) 0 (λ z. omega (arith, leb-true 1 (refusal_number r) low))) (both high (both (lt-ltb i (length c.row) picked.within) picked.ready))

@@ -7,12 +7,13 @@ use mathlib.Core.List.{List, [], ◌∷◌, map}
 use lib.ListN.{length, length-append, length-map, length-replicate}
 use lib.Dec.{ltb}
 use borrow.Author.Tests.{le-leb}
+use Rattle.std.specs.Prelude.{Ok}
 use Rattle.laws.specs.Lists.{all}
 use Rattle.laws.proofs.Choice.{parted}
 use Rattle.laws.proofs.Every.{all_nil, all_cons, all_append, all_replicate}
 use Rattle.value.specs.declared.Value.{Value}
 use Rattle.value.specs.Range.{well_formed}
-use Rattle.image.specs.declared.reader.Verdict.TheVariants.{Good}
+use Rattle.image.specs.declared.reader.Layout.{Layout}
 use Rattle.image.specs.Records.{inputs}
 use Rattle.image.specs.Reading.{read_image}
 use Rattle.image.specs.Promise.{Promise, all_good}
@@ -41,31 +42,31 @@ unfolding root_frame
 root-length r vs h = simp (length-append, length-map, length-replicate) (omega arith)
 
 module _ (image : List ℕ) (bytes : all (λ b. ltb b 256) image ≡ true) where
-  loaded-sound : (s : Seat) → Roomy s → (r n code : ℕ) → read_image image ≡ Good r n code → r ≤ s.cells → Sound (loaded s image r n) r code
+  loaded-sound : (s : Seat) → Roomy s → (g : Layout) → read_image image ≡ Ok g → g.slots ≤ s.cells → Sound (loaded s image g.slots g.inputs) g
   unfolding loaded refusal_sound well_formed
-  loaded-sound s roomy r n code e fits =
+  loaded-sound s roomy g e fits =
       record {
         bytes = bytes;
         slots = omega (arith, long);
         used = omega (arith, long);
-        cells = root-whole r (inputs n image) p.input-values;
-        row = all_cons (is-ready (loaded s image r n) (record { frame = le-leb s.start 65535 (omega (arith, roomy.region)); acc = refl; at = p.first })) all_nil;
+        cells = root-whole g.slots (inputs g.inputs image) p.input-values;
+        row = all_cons (is-ready (loaded s image g.slots g.inputs) (record { frame = le-leb s.start 65535 (omega (arith, roomy.region)); acc = refl; at = p.first })) all_nil;
         live = roomy.threads;
         refusal = refl;
         steps = omega arith;
       }
     where
-      p : Promise image r n code
+      p : Promise image g.slots g.inputs g.code
       p = promise image bytes e
 
-      long : length (root_frame r (inputs n image)) ≡ r
-      long = root-length r (inputs n image) (omega (arith, p.input-count, p.room))
+      long : length (root_frame g.slots (inputs g.inputs image)) ≡ g.slots
+      long = root-length g.slots (inputs g.inputs image) (omega (arith, p.input-count, p.room))
 
   module _ (c : Claim) (roomy : Roomy c.seat) (s : seat_sound c ≡ true) where
     loads-kept : {t : Loading} → Loads c image t → seat_sound t.claim ≡ true
     unfolding loaded
     loads-kept (rejects n) = s
-    loads-kept (accepts {r = r} {n = n} {code = code} v e h) = seated (loaded c.seat image r n) r n code e (loaded-sound c.seat roomy r n code e h)
+    loads-kept (accepts {g = g} v e h) = seated (loaded c.seat image g.slots g.inputs) e (loaded-sound c.seat roomy g e h)
 
     pub load_kept : seat_sound (load c image).claim ≡ true
     load_kept = loads-kept (Outcomes.loads c image)

@@ -26,8 +26,8 @@ module _ (c : Claim) (roomy : Roomy c.seat) (s : seat_sound c ≡ true) where
       let i = seek c.row p in
       let at = seek-picked c.row p l in
       let d = eqb-false c.steps 4294967295 more in
-      seated (perform (effect_at c i) i c) u.r u.n u.code (ap read_image (Outcomes.performed (effect_at c i) i c).image ∙ u.reads)
-      (performed c u.r u.code u.sound calm.1 i at (omega (arith, u.sound.steps)) (effect-lawful c i) (effect-keeps c u.code u.sound roomy u.reads i at.within))
+      seated (perform (effect_at c i) i c) (ap read_image (Outcomes.performed (effect_at c i) i c).image ∙ u.reads)
+      (performed c u.layout u.sound calm.1 i at (omega (arith, u.sound.steps)) (effect-lawful c i) (effect-keeps c u.layout u.sound roomy u.reads i at.within))
 
   pub turn-kept : (pick : ℕ) → seat_sound (turn c pick).claim ≡ true
   turn-kept pick = turns-kept (Outcomes.turns c pick)

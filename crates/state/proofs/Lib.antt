@@ -5,4 +5,3 @@ pub mod Stands
 pub mod Pieces
 pub mod Testing
 pub mod Regions
-pub mod Sums

@@ -4,12 +4,11 @@ use native.Mathlib.Omega.{arith}
 use mathlib.Core.Path.{◌≡◌, refl}
 use mathlib.Core.Bool.{true}
 use mathlib.Core.List.{[], ◌∷◌}
-use lib.Dec.{leb, eqb}
 use lib.ListN.{length, length-map}
-use borrow.Author.Tests.{leb-true, le-leb, eqb-true, eq-eqb}
+use Rattle.std.proofs.lemmas.Bool.Decides.{nat_tests}
+use Rattle.std.proofs.lemmas.Grind.{common_steps}
 use Rattle.laws.specs.Lists.{all}
 use Rattle.laws.proofs.Absurd.{below-zero}
-use Rattle.laws.proofs.Choice.{both, parted}
 use Rattle.rules.specs.Claim.{Claim}
 use Rattle.rules.specs.Calls.{Machine, Share, fair_share, total, may_open}
 use Rattle.rules.specs.Sound.{seat_sound, regions, shares_of, sound}
@@ -37,11 +36,7 @@ pub record Fair (s : Share) : Type 0 where
 
 pub fair-is : (s : Share) → fair_share s ≡ true → Fair s
 unfolding fair_share
-fair-is s e =
-    parted (leb 1 s.cells) _ e λ some e.
-    parted (leb s.cells 1024) _ e λ _ e.
-    parted (leb 1 s.threads) _ e λ _ most.
-    record { some = leb-true 1 s.cells some; threads = leb-true s.threads 32 most }
+fair-is s e = grind (arith, nat_tests)
 
 module _ {l : ℕ} {c : Claim} (r : Right l c) where
   pub right-some : 1 ≤ c.seat.cells
@@ -67,29 +62,15 @@ unfolding regions shares_of all total
 seats-from k l [] t = none
 seats-from zero l (c ∷ m) t = below-zero (length m) t.few
 seats-from (suc k) l (c ∷ m) t =
-    parted (eqb c.seat.start l) _ t.regions λ at regions.
-    parted (fair_share (share_of c)) _ t.fair λ fair fairs.
-    parted (seat_sound c) _ t.sound λ sound sounds.
-    let a = t.few in
-    let b = t.inside in
-    more
-    (record { at = eqb-true c.seat.start l at; fair = fair; inside = omega arith; sound = sound })
-    (seats-from k (l + c.seat.cells) m (record { few = omega arith; regions = regions; fair = fairs; inside = omega arith; sound = sounds }))
+    let w : Right l c = grind (arith, common_steps, nat_tests) in
+    let z : Tested k (l + c.seat.cells) m = grind (arith, common_steps, nat_tests) in
+    more w (seats-from k (l + c.seat.cells) m z)
 
 tested-from : {k l : ℕ} {m : Machine} → l ≤ 2048 → Seats k l m → Tested k l m
 unfolding regions shares_of all total
 tested-from h none = record { few = omega arith; regions = refl; fair = refl; inside = omega arith; sound = refl }
 tested-from {l = l} h (more {c = c} r s) =
-    let t = tested-from r.inside s in
-    let a = t.few in
-    let b = t.inside in
-    record {
-      few = omega arith;
-      regions = both (eq-eqb c.seat.start l r.at) t.regions;
-      fair = both r.fair t.fair;
-      inside = omega arith;
-      sound = both r.sound t.sound;
-    }
+    let t = tested-from r.inside s in grind (arith, common_steps, nat_tests)
 
 shares-long : (m : Machine) → length (shares_of m) ≡ length m
 unfolding shares_of
@@ -99,24 +80,9 @@ module _ (m : Machine) where
   pub seats-of : sound m ≡ true → Seats 8 0 m
   unfolding sound may_open
   seats-of e =
-      parted (may_open (shares_of m)) _ e λ o e.
-      parted (regions 0 m) _ e λ starts sounds.
-      parted (leb 1 (length (shares_of m))) _ o λ _ o.
-      parted (leb (length (shares_of m)) 8) _ o λ few o.
-      parted (all fair_share (shares_of m)) _ o λ fair most.
-      let a = leb-true (length (shares_of m)) 8 few in
-      let b = leb-true (total (shares_of m)) 2048 most in
-      let n = shares-long m in
-      seats-from 8 0 m (record { few = omega arith; regions = starts; fair = fair; inside = omega arith; sound = sounds })
+      let z : Tested 8 0 m = grind (arith, common_steps, nat_tests, shares-long m) in seats-from 8 0 m z
 
   pub sound-of : 1 ≤ length m → Seats 8 0 m → sound m ≡ true
   unfolding sound may_open
   sound-of h s =
-      let t = tested-from (omega arith) s in
-      let a = t.few in
-      let b = t.inside in
-      let n = shares-long m in
-      both
-      (both (le-leb 1 (length (shares_of m)) (omega arith))
-      (both (le-leb (length (shares_of m)) 8 (omega arith)) (both t.fair (le-leb (total (shares_of m)) 2048 (omega arith)))))
-      (both t.regions t.sound)
+      let t = tested-from (omega arith) s in grind (arith, common_steps, nat_tests, shares-long m)

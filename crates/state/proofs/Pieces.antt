@@ -6,12 +6,10 @@ use mathlib.Core.Path.{◌≡◌, refl, ap, sym, ◌∙◌}
 use mathlib.Core.Logic.{◌≢◌}
 use mathlib.Core.Bool.{true}
 use mathlib.Core.List.{List, [], ◌∷◌, ◌++◌, append_assoc}
-use lib.Dec.{ltb}
 use lib.ListN.{length, get_or, take, drop, set, replicate}
-use lib.Seq.{take-append_seam, drop-append_seam, take-append-add, drop-append-add, get_or-append-add, get_or-take, get_or-drop, take-take}
-use borrow.Author.Tests.{ltb-true, ltb-false}
+use lib.Seq.{drop-append_seam, take-append-add, drop-append-add, get_or-append-add, get_or-take, get_or-drop, take-take}
+use Rattle.std.proofs.lemmas.Grind.{common_steps}
 use Rattle.laws.proofs.Absurd.{below-zero}
-use Rattle.laws.proofs.Choice.{tested}
 use Rattle.laws.proofs.Every.{All, all_nil, all_cons, all-get, all-also}
 use Rattle.rules.specs.Claim.{Seat, Claim}
 use Rattle.rules.specs.Calls.{Machine, claim_at}
@@ -20,18 +18,16 @@ use Rattle.laying.specs.Laid.{laid_book, laid_claim}
 use Rattle.laying.proofs.Pairs.{plain-take}
 use Rattle.laying.proofs.Fitting.{Fit}
 use Rattle.laying.proofs.Fits.{Seated, seated, all_fit}
-use Rattle.state.specs.State.{State, filled, laid, Long, machine_of, Stands}
+use Rattle.state.specs.State.{State, filled, laid, Long, machine_of, Enough, Stands}
 use Rattle.state.specs.Seats.{base_of, cut, splice, parts_at, put_parts}
 use Rattle.state.proofs.Machines.{Right, right-some, right-fits, Seats, none, more, seats-of}
 use Rattle.state.proofs.Reading.{alike, long-claim}
-use Rattle.state.proofs.Stands.{Enough, long-enough}
+use Rattle.state.proofs.Stands.{long-enough}
 
 -- ---- pieces one after the other, and zeros
 
 zero-at : (n i : ℕ) (rest : List ℕ) → i < n → get_or (replicate n 0 ++ rest) i 0 ≡ 0
-zero-at zero i rest h = below-zero i h
-zero-at (suc n) zero rest h = refl
-zero-at (suc n) (suc i) rest h = zero-at n i rest (omega arith)
+zero-at n i rest h = grind (arith, common_steps)
 
 module _ (f : Claim → List ℕ) where
   -- where the k-th piece starts
@@ -44,12 +40,12 @@ module _ (f : Claim → List ℕ) where
   unfolding before
   next [] k h = below-zero k h
   next (c ∷ m) zero h = omega arith
-  next (c ∷ m) (suc k) h = let z = next m k (omega arith) in omega arith
+  next (c ∷ m) (suc k) h = grind (arith, next m k)
 
   piece : (n : ℕ) (m : Machine) (k : ℕ) (rest : List ℕ) → k < length m → take (length (f (claim_at m k))) (drop (before m k) (filled f n m ++ rest)) ≡ f (claim_at m k)
   unfolding filled before
   piece n [] k rest h = below-zero k h
-  piece n (c ∷ m) zero rest h = rw append_assoc (take-append_seam (f c) _)
+  piece n (c ∷ m) zero rest h = grind (arith, common_steps)
   piece n (c ∷ m) (suc k) rest h = rw append_assoc (rw drop-append-add (piece (n - length (f c)) m k rest (omega arith)))
 
   replaced : (n : ℕ) (m : Machine) (k : ℕ) (rest : List ℕ) → k < length m → (d : Claim) → length (f d) ≡ length (f (claim_at m k))
@@ -75,14 +71,14 @@ module _ (f : Claim → List ℕ) where
   unfolding before
   even w zero a h = sym (zero-mul w)
   even w (suc k) all_nil h = below-zero k h
-  even w (suc k) (all_cons p a) h = let e = suc-mul k w in let b = even w k a (omega arith) in omega arith
+  even w (suc k) (all_cons p a) h = grind (arith, suc-mul k w, even w k a)
 
   -- pieces as long as their seats' regions
   in-regions : {n l : ℕ} {m : Machine} (k : ℕ) → Seats n l m → All (λ c. length (f c) ≡ c.seat.cells) m → k < length m → l + before m k ≡ (claim_at m k).seat.start
   unfolding before
   in-regions k none a h = below-zero k h
   in-regions zero (more w r) (all_cons p a) h = let e = w.at in omega arith
-  in-regions (suc k) (more w r) (all_cons p a) h = let e = in-regions k r a (omega arith) in omega arith
+  in-regions (suc k) (more w r) (all_cons p a) h = grind (arith, in-regions k r a)
 
 -- one buffer b: the k-th claim's piece lies from a to e, and another claim's can be put there
 record Held (f : Claim → List ℕ) (n : ℕ) (m : Machine) (b : List ℕ) (k a e : ℕ) : Type 0 where
@@ -98,7 +94,7 @@ module _ (f : Claim → List ℕ) (n : ℕ) (m : Machine) (b : List ℕ) (lies :
       }
 
   past-pieces : (i : ℕ) → before f m (length m) ≤ i → i < n → get_or b i 0 ≡ 0
-  past-pieces i l h = ap (λ (x : List ℕ). get_or x i 0) (sym lies) ∙ past f n m i (drop n b) l h
+  past-pieces i l h = grind (arith, past f n m i (drop n b) l h)
 
 -- ---- the seats of a machine, by their numbers
 
@@ -271,9 +267,8 @@ module _ {s : State} (t : Stands s) where
 
   pub no-seat : (k : ℕ) → get_or s.book (k * 9) 0 ≡ 0 → length (machine_of s) ≤ k
   no-seat k z =
-      tested (ltb k (length (machine_of s)))
-      (λ e. let a = seat-at k (ltb-true _ _ e) in let b = a.cells in let d = a.some in absurd (omega arith))
-      (λ e. ltb-false _ _ e)
+      let a : k < length (machine_of s) → ⊥ = λ l. let a = seat-at k l in let b = a.cells in let d = a.some in omega arith in
+      omega arith
 
   -- there is one
   none-noted : (k : ℕ) → k < 8 → length (machine_of s) ≤ k → get_or s.book (k * 9) 0 ≡ 0
@@ -283,5 +278,4 @@ module _ {s : State} (t : Stands s) where
       past-pieces _ 72 (machine_of s) s.book (ap (λ (x : State). x.book) t.same) (k * 9) (omega arith) (omega arith)
 
   pub is-seat : (k : ℕ) → k < 8 → get_or s.book (k * 9) 0 ≢ 0 → k < length (machine_of s)
-  is-seat k h n =
-      tested (ltb k (length (machine_of s))) (λ e. ltb-true _ _ e) (λ e. absurd (n (none-noted k h (ltb-false _ _ e))))
+  is-seat k h n = grind (arith, none-noted k h)

@@ -5,15 +5,15 @@ use mathlib.Core.Path.{◌≡◌, refl, sym, ap, ◌∙◌, subst}
 use mathlib.Core.Bool.{true, false, ◌&&◌}
 use mathlib.Core.List.{[], ◌∷◌}
 use lib.Dec.{eqb}
-use lib.ListN.{get_or, take, drop, length-drop, length-replicate, get_or-replicate}
+use lib.ListN.{get_or, take, drop, length-drop, get_or-replicate}
 use lib.Seq.{get_or-take}
-use borrow.Author.Tests.{le-leb, leb-true, eq-eqb, ne_eqb}
-use Rattle.laws.specs.Lists.{all}
+use borrow.Author.Tests.{eq-eqb, ne_eqb}
+use Rattle.std.proofs.lemmas.Bool.Decides.{nat_tests}
+use Rattle.std.proofs.lemmas.Grind.{common_steps}
 use Rattle.laws.proofs.Choice.{both, first, parted, tested}
 use Rattle.rules.specs.Claim.{Claim}
 use Rattle.rules.specs.Calls.{Machine, Share, fair_share}
 use Rattle.rules.specs.Sound.{seat_sound}
-use Rattle.lent.specs.Runs.{is_zero}
 use Rattle.laying.specs.Laid.{Parts, cell_tag, cell_word, head_number, acc_number, laid_book, laid_claim}
 use Rattle.laying.specs.Back.{claim_in, well_laid}
 use Rattle.laying.proofs.Spread.{length-spread}
@@ -51,26 +51,19 @@ module _ (k l : ℕ) (p : Parts) where
 
   pub stand-taken : eqb (share p) 0 ≡ false → stand_from (suc k) l p ≡ (fair_at l p && (sound_on l (front p) && stand_from k (l + share p) (behind p)))
   unfolding stand_from
-  stand-taken e = rw e
+  stand-taken e = grind (arith, common_steps)
 
 -- ---- no seats
 
 module _ (k r : ℕ) where
   long-none : Long k r (laid_in k r [])
   unfolding laid_in filled
-  long-none = record {
-    book = length-replicate (k * 9) 0;
-    tags = length-replicate r 0;
-    words = length-replicate r 0;
-    heads = length-replicate (k * 32) 0;
-    accs = length-replicate (k * 32) 0;
-    image = length-replicate (k * 4096) 0;
-  }
+  long-none = grind (arith, common_steps)
 
   bare-none : bare (laid_in k r []) ≡ true
   unfolding bare parts_bare laid_in filled
   bare-none =
-      both (zeros-pass (k * 9)) (both (zeros-pass r) (both (zeros-pass r) (both (zeros-pass (k * 32)) (both (zeros-pass (k * 32)) (zeros-pass (k * 4096))))))
+      grind (arith, common_steps, zeros-pass (k * 9), zeros-pass r, zeros-pass (k * 32), zeros-pass (k * 4096))
 
 share-none : (k r : ℕ) → eqb (share (laid_in (suc k) r [])) 0 ≡ true
 unfolding laid_in filled
@@ -104,7 +97,7 @@ module _ (k n : ℕ) (c : Claim) (m : Machine) where
 
   fair-laid : (l : ℕ) → Right l c → fair_at l (laid_in (suc k) n (c ∷ m)) ≡ true
   unfolding fair_at laid_in filled laid_claim laid_book
-  fair-laid l w = both w.fair (le-leb (l + c.seat.cells) 2048 w.inside)
+  fair-laid l w = grind (arith, common_steps, nat_tests)
 
   module _ (r : ℕ) (h : n ≡ c.seat.cells + r) (z : Long 1 c.seat.cells (laid_claim c)) where
     long-more : Long k r (laid_in k r m) → Long (suc k) n (laid_in (suc k) n (c ∷ m))
@@ -198,18 +191,13 @@ module _ (k l r : ℕ) (p : Parts) (z : Long k r p) (e : bare p ≡ true) where
   laid_none : laid_in k r [] ≡ p
   unfolding bare parts_bare laid_in filled
   laid_none =
-      parted (all is_zero p.book) _ e λ book e.
-      parted (all is_zero p.tags) _ e λ tags e.
-      parted (all is_zero p.words) _ e λ words e.
-      parted (all is_zero p.heads) _ e λ heads e.
-      parted (all is_zero p.accs) _ e λ accs image.
       alike
-      (rw z.book at (zeros-are p.book book))
-      (rw z.tags at (zeros-are p.tags tags))
-      (rw z.words at (zeros-are p.words words))
-      (rw z.heads at (zeros-are p.heads heads))
-      (rw z.accs at (zeros-are p.accs accs))
-      (rw z.image at (zeros-are p.image image))
+      (grind (arith, common_steps, zeros-are p.book))
+      (grind (arith, common_steps, zeros-are p.tags))
+      (grind (arith, common_steps, zeros-are p.words))
+      (grind (arith, common_steps, zeros-are p.heads))
+      (grind (arith, common_steps, zeros-are p.accs))
+      (grind (arith, common_steps, zeros-are p.image))
 
   stood-none : claims_from k l p ≡ [] → Stood k l r p
   stood-none q = record { seats = rw q none; same = rw q laid_none }
@@ -253,11 +241,12 @@ module _ (k l r : ℕ) (p : Parts) (z : Long (suc k) r p) where
   right_is : fair_at l p ≡ true → sound_on l (front p) ≡ true → Right l (claim_in l (front p))
   unfolding fair_at sound_on
   right_is f s =
-      parted (fair_share (record { cells = share p; threads = get_or p.book 1 0 })) _ f λ fair inside.
-      parted (well_laid (front p)) _ s λ _ sound.
-      let a = leb-true (l + share p) 2048 inside in
-      let b = cells_are in
-      record { at = start_is; fair = ap fair_share shares-are ∙ fair; inside = omega arith; sound = sound }
+      record {
+        at = start_is;
+        fair = ap fair_share shares-are ∙ grind (arith, common_steps);
+        inside = grind (arith, common_steps, nat_tests, cells_are);
+        sound = grind (arith, common_steps);
+      }
 
   module _ (h : l + r ≡ 2048) (t : eqb (share p) 0 ≡ false) (f : fair_at l p ≡ true) (s : sound_on l (front p) ≡ true) where
     fits_in : share p ≤ r

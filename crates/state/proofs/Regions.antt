@@ -2,15 +2,13 @@
 use Prim.Native.Nat.{ℕ, ◌+◌, ◌*◌, ◌≤◌, ◌<◌}
 use native.Mathlib.Omega.{arith}
 use mathlib.Core.Path.{◌≡◌, ◌∙◌}
-use lib.Dec.{ltb, eqb}
 use lib.ListN.{length, get_or}
-use borrow.Author.Tests.{ltb-true, ltb-false, eqb-true, eqb-false}
-use Rattle.laws.proofs.Absurd.{clash}
-use Rattle.laws.proofs.Choice.{chosen}
-use Rattle.state.specs.declared.seats.Region.TheVariants.{At, Nowhere}
-use Rattle.state.specs.State.{State, machine_of, Stands}
+use Rattle.std.proofs.lemmas.Bool.Decides.{nat_tests}
+use Rattle.std.proofs.lemmas.Grind.{common_steps}
+use Rattle.state.specs.declared.seats.Region.{Region}
+use Rattle.state.specs.State.{State, machine_of, Enough, Stands}
+use Rattle.std.specs.Prelude.{Some, None}
 use Rattle.state.specs.Seats.{base_of, region_in}
-use Rattle.state.proofs.Stands.{Enough}
 use Rattle.state.proofs.Pieces.{from, to, seat-at, no-seat-far, no-seat, is-seat}
 
 -- there is a seat k, its cells lie from a to e, and each buffer is long enough for its parts
@@ -30,19 +28,13 @@ module _ {s : State} (t : Stands s) {k : ℕ} where
       let l = z.inside in
       record { seat = h; starts = p ∙ z.base; ends = ends; few = z.few; inside = omega arith; lengths = z.lengths }
 
-  pub region-at : {a e : ℕ} → region_in s.book k ≡ At a e → RegionAt s k a e
+  pub region_at : {g : Region} → region_in s.book k ≡ Some g → RegionAt s k g.start g.end
   unfolding region_in
-  region-at r =
-      chosen (ltb k 8) _ _ r
-      (λ l r.
-      chosen (eqb (get_or s.book (k * 9) 0) 0) _ _ r
-      (λ _ r. clash (cc))
-      (λ n r. region-from (is-seat t k (ltb-true _ _ l) (eqb-false _ _ n)) (cc) (cc)))
-      (λ _ r. clash (cc))
+  region_at r =
+      let h : k < length (machine_of s) = grind (arith, common_steps, nat_tests, is-seat t k) in
+      region-from h (grind (arith, common_steps)) (grind (arith, common_steps))
 
-  pub region-nowhere : region_in s.book k ≡ Nowhere → length (machine_of s) ≤ k
+  pub region-nowhere : region_in s.book k ≡ None → length (machine_of s) ≤ k
   unfolding region_in
   region-nowhere r =
-      chosen (ltb k 8) _ _ r
-      (λ _ r. chosen (eqb (get_or s.book (k * 9) 0) 0) _ _ r (λ z _. no-seat t k (eqb-true _ _ z)) (λ _ r. clash (cc)))
-      (λ l _. no-seat-far t k (ltb-false _ _ l))
+      grind (arith, common_steps, nat_tests, no-seat t k, no-seat-far t k)

@@ -2,56 +2,30 @@
 use Prim.Native.Nat.{ℕ, suc, ◌≤◌}
 use native.Mathlib.Omega.{arith}
 use mathlib.Core.Path.{◌≡◌, refl, sym, ap, ◌∙◌}
-use mathlib.Core.Bool.{true, false, not}
+use mathlib.Core.Bool.{true, false}
 use mathlib.Core.List.{List, [], ◌∷◌, ◌++◌}
-use lib.Dec.{leb, eqb}
-use lib.ListN.{length, drop, length-append, take-append-drop}
+use lib.Dec.{eqb}
+use lib.ListN.{length, drop, take-append-drop}
 use lib.Seq.{length-take-le, take_at, drop_at, get_or-take}
-use borrow.Author.Tests.{leb-true, le-leb, ne_eqb, not-true}
+use borrow.Author.Tests.{ne_eqb}
+use Rattle.std.proofs.lemmas.Bool.Decides.{nat_tests}
+use Rattle.std.proofs.lemmas.Grind.{common_steps}
 use Rattle.laws.proofs.Absurd.{clash}
-use Rattle.laws.proofs.Choice.{both, parted}
 use Rattle.rules.specs.Claim.{Claim}
 use Rattle.rules.specs.Calls.{Machine, may_open}
 use Rattle.rules.specs.Sound.{shares_of, sound}
 use Rattle.laying.specs.Laid.{Parts, laid_book, laid_claim}
-use Rattle.state.specs.State.{State, state, filled, laid, is_long, long, Long, share, within, machine_of, claims_from, stand_from, state_sound, Stands}
+use Rattle.state.specs.State.{State, state, filled, laid, is_long, long, Long, share, within, machine_of, claims_from, state_sound, Enough, Stands}
 use Rattle.state.proofs.Machines.{Seats, more, right-some, seats-of, sound-of}
 use Rattle.state.proofs.Reading.{alike, laid_in, Lies, lies, stood, claims-taken}
 
--- the minimum lengths
-pub record Enough (s : State) : Type 0 where
-  pub book : 72 ≤ length s.book
-  pub tags : 2048 ≤ length s.tags
-  pub words : 2048 ≤ length s.words
-  pub heads : 256 ≤ length s.heads
-  pub accs : 256 ≤ length s.accs
-  pub image : 32768 ≤ length s.image
-
 pub long-enough : (s : State) → long s ≡ true → Enough s
 unfolding long is_long
-long-enough s e =
-    parted (leb 72 (length s.book)) _ e λ book e.
-    parted (leb 2048 (length s.tags)) _ e λ tags e.
-    parted (leb 2048 (length s.words)) _ e λ words e.
-    parted (leb 256 (length s.heads)) _ e λ heads e.
-    parted (leb 256 (length s.accs)) _ e λ accs image.
-    record {
-      book = leb-true 72 (length s.book) book;
-      tags = leb-true 2048 (length s.tags) tags;
-      words = leb-true 2048 (length s.words) words;
-      heads = leb-true 256 (length s.heads) heads;
-      accs = leb-true 256 (length s.accs) accs;
-      image = leb-true 32768 (length s.image) image;
-    }
+long-enough s e = grind (arith, nat_tests)
 
 pub enough-long : (s : State) → Enough s → long s ≡ true
 unfolding long is_long
-enough-long s h =
-    both (le-leb 72 (length s.book) h.book)
-    (both (le-leb 2048 (length s.tags) h.tags)
-    (both (le-leb 2048 (length s.words) h.words)
-    (both (le-leb 256 (length s.heads) h.heads)
-    (both (le-leb 256 (length s.accs) h.accs) (le-leb 32768 (length s.image) h.image)))))
+enough-long s h = grind (arith, nat_tests)
 
 -- ---- parts of all seats over the front of a state
 
@@ -64,9 +38,6 @@ laid-is : (m : Machine) (s : State) → laid m s ≡ over (laid_in 8 2048 m) s
 unfolding laid laid_in
 laid-is m s = refl
 
-at_least : (p q : List ℕ) {n : ℕ} → length p ≡ n → n ≤ length (p ++ q)
-at_least p q e = let a = length-append p q in omega arith
-
 module _ (p : Parts) (s : State) (l : Long 8 2048 p) where
   within-over : within (over p s) ≡ p
   within-over =
@@ -74,14 +45,7 @@ module _ (p : Parts) (s : State) (l : Long 8 2048 p) where
       (take_at p.heads _ 256 l.heads) (take_at p.accs _ 256 l.accs) (take_at p.image _ 32768 l.image)
 
   enough-over : Enough (over p s)
-  enough-over = record {
-    book = at_least p.book _ l.book;
-    tags = at_least p.tags _ l.tags;
-    words = at_least p.words _ l.words;
-    heads = at_least p.heads _ l.heads;
-    accs = at_least p.accs _ l.accs;
-    image = at_least p.image _ l.image;
-  }
+  enough-over = grind (arith, common_steps)
 
   over-over : (q : Parts) → over q (over p s) ≡ over q s
   over-over q =
@@ -144,12 +108,12 @@ some-seat (c ∷ m) s e = first-share s (seats-of (c ∷ m) e)
 
 state-sound : (m : Machine) (s : State) → sound m ≡ true → long s ≡ true → state_sound (laid m s) ≡ true
 unfolding state_sound
-state-sound m s e l = both (long-laid m s e l) (both (ap not (some-seat m s e)) (ap (stand_from 8 0) (within-laid m s e) ∙ (machine-lies m e).stand))
+state-sound m s e l = let i = machine-lies m e in grind (arith, common_steps, long-laid m s e l, some-seat m s e, within-laid m s e)
 
 -- ---- a sound state
 
 claims-some : (k l : ℕ) (p : Parts) → eqb (share p) 0 ≡ false → 1 ≤ length (claims_from (suc k) l p)
-claims-some k l p e = rw (claims-taken k l p e) (omega arith)
+claims-some k l p e = grind (arith, claims-taken k l p e)
 
 module _ (s : State) where
   share-within : share (within s) ≡ share s
@@ -158,10 +122,9 @@ module _ (s : State) where
   pub sound-stands : state_sound s ≡ true → Stands s
   unfolding state_sound machine_of
   sound-stands e =
-      parted (long s) _ e λ l e.
-      parted (not (eqb (share s) 0)) _ e λ some e.
-      let o = stood 8 0 2048 (within s) refl (within-long s (long-enough s l)) e in
-      let t : eqb (share (within s)) 0 ≡ false = rw share-within (not-true _ some) in
+      let l : long s ≡ true = grind (arith, common_steps) in
+      let o = stood 8 0 2048 (within s) refl (within-long s (long-enough s l)) (grind (arith, common_steps)) in
+      let t : eqb (share (within s)) 0 ≡ false = grind (arith, common_steps, share-within) in
       record {
         long = l;
         sound = sound-of (machine_of s) (claims-some 7 0 (within s) t) o.seats;

@@ -1,9 +1,8 @@
 -- Where a seat's parts lie in the lent state. Assumes nothing.
-use Rattle.std.specs.Prelude.{ℕ, zero, suc, ◌+◌, ◌*◌, ◌-◌, ◌≤◌, ◌≡◌, List, ◌++◌, get_or, take, drop, ltb, eqb}
+use Rattle.std.specs.Prelude.{ℕ, zero, suc, ◌+◌, ◌*◌, ◌-◌, ◌≤◌, ◌≡◌, List, ◌++◌, get_or, take, drop, ltb, eqb, Option, Some, None}
 use Rattle.std.specs.Prelude.{if◌then◌else◌}
 use Rattle.laying.specs.Laid.{Parts}
 use Rattle.state.specs.declared.seats.Region.{Region}
-use Rattle.state.specs.declared.seats.Region.TheVariants.{At, Nowhere}
 use Rattle.state.specs.State.{State, state}
 
 -- "Seat k's region of cell numbers starts at the sum of the shares before it."
@@ -16,10 +15,13 @@ pub record Base (book : List ℕ) (k r : ℕ) : Type 0 where
   pub same : r ≡ base_of book k
   pub small : r ≤ k * 4294967296
 
+abbrev pub region : ℕ → ℕ → Region
+region a e = record { start = a; end = e }
+
 -- seat k's region, from its first cell to behind its last, if there is such a seat
-unfoldable pub region_in : List ℕ → ℕ → Region
+unfoldable pub region_in : List ℕ → ℕ → Option Region
 region_in book k =
-    if ltb k 8 then (if eqb (get_or book (k * 9) 0) 0 then Nowhere else At (base_of book k) (base_of book k + get_or book (k * 9) 0)) else Nowhere
+    if ltb k 8 then (if eqb (get_or book (k * 9) 0) 0 then None else Some (region (base_of book k) (base_of book k + get_or book (k * 9) 0))) else None
 
 -- the part of l from a to e, and l with p in its place
 abbrev pub cut : ℕ → ℕ → List ℕ → List ℕ

@@ -11,8 +11,9 @@ use Rattle.laying.specs.Laid.{Parts, parts, laid_claim}
 use Rattle.laying.specs.Back.{claim_in}
 use Rattle.inspection.specs.Sound.{sound_on}
 use Rattle.inspection.specs.Tests.{parts_bare}
-use Rattle.state.specs.declared.whole.First.{First}
-use Rattle.state.specs.declared.whole.First.TheVariants.{Ends, Seat}
+use Rattle.std.specs.declared.ops.ControlFlow.{ControlFlow}
+use Rattle.std.specs.declared.ops.ControlFlow.TheVariants.{Continue, Break}
+use Rattle.state.specs.declared.whole.Lent.{Lent}
 
 -- the six lent buffers, each as a list: all seats' parts, one after the other
 abbrev pub State : Type 0
@@ -20,6 +21,9 @@ State = Parts
 
 abbrev pub state : List ℕ → List ℕ → List ℕ → List ℕ → List ℕ → List ℕ → State
 state book tags words heads accs images = parts book tags words heads accs images
+
+abbrev pub state_of : Lent → State
+state_of l = state l.book.now l.tags.now l.words.now l.heads.now l.accs.now l.images.now
 
 -- ---- claims written
 
@@ -44,6 +48,15 @@ is_long book tags words heads accs images =
 unfoldable pub long : State → Bool
 long s = is_long (length s.book) (length s.tags) (length s.words) (length s.heads) (length s.accs) (length s.image)
 
+-- the same, each of its own
+pub record Enough (s : State) : Type 0 where
+  pub book : 72 ≤ length s.book
+  pub tags : 2048 ≤ length s.tags
+  pub words : 2048 ≤ length s.words
+  pub heads : 256 ≤ length s.heads
+  pub accs : 256 ≤ length s.accs
+  pub image : 32768 ≤ length s.image
+
 -- ---- claims read back
 
 -- the cell share of the first seat; 0 where there is none
@@ -58,6 +71,11 @@ front p =
 abbrev pub behind : Parts → Parts
 behind p =
     state (drop 9 p.book) (drop (share p) p.tags) (drop (share p) p.words) (drop 32 p.heads) (drop 32 p.accs) (drop 4096 p.image)
+
+-- the seats from k on, their cells from a on
+abbrev pub ahead : ℕ → ℕ → Parts → Parts
+ahead k a p =
+    state (drop (k * 9) p.book) (drop a p.tags) (drop a p.words) (drop (k * 32) p.heads) (drop (k * 32) p.accs) (drop (k * 4096) p.image)
 
 -- what of the buffers is the machine's
 abbrev pub within : State → Parts
@@ -94,15 +112,15 @@ pub record Ahead (l : ℕ) (p : Parts) : Type 0 where
 -- ---- soundness
 
 unfoldable pub bare : Parts → Bool
-bare p = all is_zero p.book && parts_bare p.tags p.words p.heads p.accs p.image
+bare p = all is_zero p.book && parts_bare p
 
 -- "shares obey the limits": 2,048 cells in all, of which l are taken
 unfoldable pub fair_at : ℕ → Parts → Bool
 fair_at l p = fair_share (record { cells = share p; threads = get_or p.book 1 0 }) && leb (l + share p) 2048
 
 -- what is found of the first seat: there is none, and whether all is zero; it is not sound; or it is, with so many cells
-unfoldable pub first_in : ℕ → Parts → First
-first_in l p = if eqb (share p) 0 then Ends (bare p) else (if fair_at l p && sound_on l (front p) then Seat (share p) else Ends false)
+unfoldable pub first_in : ℕ → Parts → ControlFlow Bool ℕ
+first_in l p = if eqb (share p) 0 then Break (bare p) else (if fair_at l p && sound_on l (front p) then Continue (share p) else Break false)
 
 -- each seat's parts are those of a sound claim, and behind the last seat all is zero
 unfoldable pub stand_from : ℕ → ℕ → Parts → Bool

@@ -1,50 +1,26 @@
 // Document 01's limits: the least length of each buffer, and the shares that a seat may have.
 ghost use Rattle.std.specs.Prelude.{◌≡◌};
 ghost use Rattle.rules.specs.Calls.{fair_share};
-ghost use Rattle.state.specs.State.{is_long};
+ghost use Rattle.state.specs.State.{state_of, long};
+
+use crate::whole::Lent;
 
 // Whether each buffer has its minimum length.
-#[tactic(auto, unfolding(crate::specs::State::is_long))]
-pub fn is_long(
-    book: usize,
-    tags: usize,
-    words: usize,
-    heads: usize,
-    accs: usize,
-    images: usize,
-) -> bool
-    ensures { result ≡ is_long book tags words heads accs images }
+#[tactic(auto, unfolding(crate::specs::State::is_long, crate::specs::State::long))]
+pub fn is_long(lent: Lent) -> bool
+    ensures { result ≡ long (state_of lent.entry) }
 {
-    if book < 72 {
-        return false;
-    }
-    if tags < 2048 {
-        return false;
-    }
-    if words < 2048 {
-        return false;
-    }
-    if heads < 256 {
-        return false;
-    }
-    if accs < 256 {
-        return false;
-    }
-    32768 <= images
+    72 <= lent.book.len()
+        && 2048 <= lent.tags.len()
+        && 2048 <= lent.words.len()
+        && 256 <= lent.heads.len()
+        && 256 <= lent.accs.len()
+        && 32768 <= lent.images.len()
 }
 
 #[tactic(auto, unfolding(rules::specs::Calls::fair_share))]
 pub fn is_fair(cells: u32, threads: u32) -> bool
     ensures { result ≡ fair_share (record { cells = cells; threads = threads }) }
 {
-    if cells < 1 {
-        return false;
-    }
-    if 1024 < cells {
-        return false;
-    }
-    if threads < 1 {
-        return false;
-    }
-    threads <= 32
+    (1..=1024).contains(&cells) && (1..=32).contains(&threads)
 }

@@ -2,13 +2,13 @@
 ghost use Rattle.std.specs.Prelude.{◌≡◌, ◌≤◌};
 ghost use Rattle.state.specs.Seats.{Base, region_in};
 
-use lent::get32;
+use lent::get;
 
 // A seat's region: its cells, from the first to behind the last.
-#[derive(Clone, Copy)]
-pub enum Region {
-    At(usize, usize),
-    Nowhere,
+#[derive(Clone, Copy, Debug, PartialEq, Eq)]
+pub struct Region {
+    pub start: usize,
+    pub end: usize,
 }
 
 // Where seat k's cells start: the sum of the shares before it.
@@ -18,26 +18,27 @@ fn base_of(book: &[u32], k: usize) -> usize
     ensures { Base book.now k result }
 {
     let mut sum: usize = 0;
-    let mut i: usize = 0;
-    while i < k {
-        sum += get32(book, i * 9) as usize;
-        i += 1;
+    for i in 0..k {
+        sum += get(book, i * 9, 0) as usize;
     }
     sum
 }
 
 // A seat is there if its cell share is not 0.
 #[tactic(auto, unfolding(crate::specs::Seats::region_in))]
-pub fn region_of(book: &[u32], k: usize) -> Region
+pub fn region_of(book: &[u32], k: usize) -> Option<Region>
     ensures { result ≡ region_in book.now k }
 {
     if 8 <= k {
-        return Region::Nowhere;
+        return None;
     }
-    let n = get32(book, k * 9) as usize;
-    if n == 0 {
-        return Region::Nowhere;
+    let cells = get(book, k * 9, 0) as usize;
+    if cells == 0 {
+        return None;
     }
-    let a = base_of(book, k);
-    Region::At(a, a + n)
+    let start = base_of(book, k);
+    Some(Region {
+        start,
+        end: start + cells,
+    })
 }

@@ -1,146 +1,137 @@
 // Whether the lent state is sound: seat by seat, and zero behind the last.
-ghost use Rattle.std.specs.Prelude.{◌≡◌};
-ghost use Rattle.state.specs.State.{state, bare, first_in, stand_from, state_sound, Ahead, Long};
+ghost use Rattle.std.specs.Prelude.{◌≡◌, ◌≤◌};
+ghost use Rattle.inspection.specs.Seats.{parts_of};
+ghost use Rattle.state.specs.State.{state_of, Enough, within, ahead, bare, fair_at, first_in, stand_from, state_sound, Ahead, Long};
 
 use crate::limits;
-use inspection::sound;
-use lent::{get32, is_bare32};
+use inspection::sound::{self, Seat};
+use lent::{get, is_bare};
+use std::ops::ControlFlow;
 
-// What is found of the first seat: none or an unsound one, and whether the state is sound so; or a sound one, with so many cells.
+// The six lent buffers: all seats' parts, one after the other.
 #[derive(Clone, Copy)]
-pub enum First {
-    Ends(bool),
-    Seat(usize),
+pub struct Lent<'a> {
+    pub book: &'a [u32],
+    pub tags: &'a [u16],
+    pub words: &'a [u64],
+    pub heads: &'a [u64],
+    pub accs: &'a [u64],
+    pub images: &'a [u8],
 }
 
-#[tactic(auto, unfolding(crate::specs::State::bare))]
-fn all_bare(
-    book: &[u32],
-    tags: &[u16],
-    words: &[u64],
-    heads: &[u64],
-    accs: &[u64],
-    images: &[u8],
-) -> bool
-    ensures { result ≡ bare (state book.now tags.now words.now heads.now accs.now images.now) }
-{
-    if !is_bare32(book) {
-        return false;
+impl<'a> Lent<'a> {
+    // What of the buffers is the machine's.
+    fn within(self) -> Lent<'a>
+        requires { Enough (state_of self) }
+        ensures { state_of result ≡ within (state_of self.entry) }
+    {
+        Lent {
+            book: &self.book[..72],
+            tags: &self.tags[..2048],
+            words: &self.words[..2048],
+            heads: &self.heads[..256],
+            accs: &self.accs[..256],
+            images: &self.images[..32768],
+        }
     }
-    sound::parts_bare(tags, words, heads, accs, images)
+
+    // The seats from the k-th on, their cells from a on.
+    fn ahead(self, k: usize, a: usize) -> Lent<'a>
+        requires all_seats { Long 8 2048 (state_of self) }
+        requires seats { k ≤ 8 }
+        requires cells { a ≤ 2048 }
+        ensures { state_of result ≡ ahead k a (state_of self.entry) }
+    {
+        Lent {
+            book: &self.book[k * 9..],
+            tags: &self.tags[a..],
+            words: &self.words[a..],
+            heads: &self.heads[k * 32..],
+            accs: &self.accs[k * 32..],
+            images: &self.images[k * 4096..],
+        }
+    }
+
+    // A seat's parts, each as long as its buffer.
+    fn as_seat(self) -> Seat<'a>
+        ensures { parts_of result ≡ state_of self.entry }
+    {
+        Seat {
+            book: self.book,
+            tags: self.tags,
+            words: self.words,
+            heads: self.heads,
+            accs: self.accs,
+            image: self.images,
+        }
+    }
+
+    #[tactic(auto, unfolding(crate::specs::State::bare))]
+    fn is_bare(self) -> bool
+        ensures { result ≡ bare (state_of self.entry) }
+    {
+        is_bare(self.book) && sound::parts_bare(self.as_seat())
+    }
+
+    // The first seat's share is fair, and there are cells left for it.
+    #[tactic(auto, unfolding(crate::specs::State::fair_at))]
+    fn is_fair_at(self, start: u32) -> bool
+        ensures { result ≡ fair_at start (state_of self.entry) }
+    {
+        let cells = get(self.book, 0, 0);
+        limits::is_fair(cells, get(self.book, 1, 0)) && start as usize + cells as usize <= 2048
+    }
 }
 
-// The first of the seats that are left, whose region starts at `start`.
-fn first_of(
-    book: &[u32],
-    tags: &[u16],
-    words: &[u64],
-    heads: &[u64],
-    accs: &[u64],
-    images: &[u8],
-    start: u32,
-) -> First
-    requires { Ahead start (state book.now tags.now words.now heads.now accs.now images.now) }
-    ensures { result ≡ first_in start (state book.now tags.now words.now heads.now accs.now images.now) }
+// What is found of the first seat of those left, whose region starts at `start`: a sound one goes on, with so many cells;
+// none, or an unsound one, breaks with whether the state is sound.
+#[tactic(auto, unfolding(crate::specs::State::first_in, crate::specs::State::fair_at))]
+fn first_of(lent: Lent, start: u32) -> ControlFlow<bool, usize>
+    requires { Ahead start (state_of lent) }
+    ensures { result ≡ first_in start (state_of lent.entry) }
 {
-    let cells = get32(book, 0);
+    let cells = get(lent.book, 0, 0) as usize;
     if cells == 0 {
-        return First::Ends(all_bare(book, tags, words, heads, accs, images));
+        return ControlFlow::Break(lent.is_bare());
     }
-    if !limits::is_fair(cells, get32(book, 1)) {
-        return First::Ends(false);
+    if !lent.is_fair_at(start) {
+        return ControlFlow::Break(false);
     }
-    if 2048 - start < cells {
-        return First::Ends(false);
+    let first = Seat {
+        book: &lent.book[..9],
+        tags: &lent.tags[..cells],
+        words: &lent.words[..cells],
+        heads: &lent.heads[..32],
+        accs: &lent.accs[..32],
+        image: &lent.images[..4096],
+    };
+    if !sound::seat_sound(first, start) {
+        return ControlFlow::Break(false);
     }
-    let n = cells as usize;
-    if sound::seat_sound(
-        &book[..9],
-        &tags[..n],
-        &words[..n],
-        &heads[..32],
-        &accs[..32],
-        &images[..4096],
-        start,
-    ) {
-        return First::Seat(n);
-    }
-    First::Ends(false)
+    ControlFlow::Continue(cells)
 }
 
 // All seats, over exactly the least length of each buffer.
-fn seats_stand(
-    book: &[u32],
-    tags: &[u16],
-    words: &[u64],
-    heads: &[u64],
-    accs: &[u64],
-    images: &[u8],
-) -> bool
-    requires { Long 8 2048 (state book.now tags.now words.now heads.now accs.now images.now) }
-    ensures { result ≡ stand_from 8 0 (state book.now tags.now words.now heads.now accs.now images.now) }
+fn seats_stand(lent: Lent) -> bool
+    requires { Long 8 2048 (state_of lent) }
+    ensures { result ≡ stand_from 8 0 (state_of lent.entry) }
 {
-    let mut k: usize = 0;
     let mut a: usize = 0;
-    while k < 8 {
-        let b = k * 9;
-        let h = k * 32;
-        let i = k * 4096;
-        match first_of(
-            &book[b..],
-            &tags[a..],
-            &words[a..],
-            &heads[h..],
-            &accs[h..],
-            &images[i..],
-            a as u32,
-        ) {
-            First::Ends(r) => return r,
-            First::Seat(n) => {
-                a += n;
-                k += 1;
-            }
+    for k in 0..8 {
+        match first_of(lent.ahead(k, a), a as u32) {
+            ControlFlow::Break(stands) => return stands,
+            ControlFlow::Continue(cells) => a += cells,
         }
     }
-    all_bare(
-        &book[72..],
-        &tags[a..],
-        &words[a..],
-        &heads[256..],
-        &accs[256..],
-        &images[32768..],
-    )
+    lent.ahead(8, a).is_bare()
 }
 
-pub fn is_sound(
-    book: &[u32],
-    tags: &[u16],
-    words: &[u64],
-    heads: &[u64],
-    accs: &[u64],
-    images: &[u8],
-) -> bool
-    ensures { result ≡ state_sound (state book.now tags.now words.now heads.now accs.now images.now) }
+#[tactic(auto, unfolding(crate::specs::State::state_sound))]
+pub fn is_sound(lent: Lent) -> bool
+    ensures { result ≡ state_sound (state_of lent.entry) }
 {
-    if !limits::is_long(
-        book.len(),
-        tags.len(),
-        words.len(),
-        heads.len(),
-        accs.len(),
-        images.len(),
-    ) {
+    if !limits::is_long(lent) {
         return false;
     }
-    if get32(book, 0) == 0 {
-        return false;
-    }
-    seats_stand(
-        &book[..72],
-        &tags[..2048],
-        &words[..2048],
-        &heads[..256],
-        &accs[..256],
-        &images[..32768],
-    )
+    get(lent.book, 0, 0) != 0 && seats_stand(lent.within())
 }

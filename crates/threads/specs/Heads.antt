@@ -1,10 +1,8 @@
 -- A thread record: a head of four fields of sixteen bits, place, position, frame and accumulator's tag from the low end, and the accumulator's word. Assumes nothing.
-use Rattle.std.specs.Prelude.{ℕ, ◌+◌, ◌*◌, ◌/◌, ◌%◌, ltb}
+use Rattle.std.specs.Prelude.{ℕ, ◌+◌, ◌*◌, ◌/◌, ◌%◌, List, [], ◌∷◌, ltb}
 use Rattle.std.specs.Prelude.{if◌then◌else◌}
-use Rattle.value.specs.declared.Value.{Value}
+use Rattle.std.specs.Option.{unwrap_or}
 use Rattle.value.specs.declared.Value.TheVariants.{Nil}
-use Rattle.value.specs.declared.coding.Decoded.{Decoded}
-use Rattle.value.specs.declared.coding.Decoded.TheVariants.{Good, Malformed}
 use Rattle.value.specs.Coding.{tag_of, decoded}
 use Rattle.rules.specs.declared.Thread.{Thread}
 
@@ -24,14 +22,14 @@ wait_place l = if ltb l 65534 then l + 2 else 0
 abbrev pub place_in : ℕ → ℕ
 place_in head = head % 65536
 
+-- the four fields of a head, from the low end
+abbrev pub fields_of : ℕ → List ℕ
+fields_of head = place_in head ∷ head / 65536 % 65536 ∷ head / 4294967296 % 65536 ∷ head / 281474976710656 % 65536 ∷ []
+
 -- the same head, ready
 abbrev pub readied : ℕ → ℕ
 readied head = head / 65536 * 65536 + 1
 
-unfoldable pub value_or : Decoded → Value
-value_or (Good v) = v
-value_or Malformed = Nil
-
 unfoldable pub thread_in : ℕ → ℕ → Thread
 thread_in head word =
-    record { position = head / 65536 % 65536; frame = head / 4294967296 % 65536; acc = value_or (decoded (head / 281474976710656 % 65536) word) }
+    record { position = head / 65536 % 65536; frame = head / 4294967296 % 65536; acc = unwrap_or (decoded (head / 281474976710656 % 65536) word) Nil }

@@ -1,19 +1,21 @@
 -- The row of thread records, as heads and accumulators' words: searched, and written after an effect. Assumes nothing.
-use Rattle.std.specs.Prelude.{ℕ, zero, suc, ◌+◌, ◌-◌, ◌||◌, List, [], ◌∷◌, ◌++◌, length, take, drop, set, eqb, ltb}
+use Rattle.std.specs.Prelude.{ℕ, Result, Ok, Err, zero, suc, ◌+◌, ◌-◌, ◌||◌, List, [], ◌∷◌, ◌++◌, length, take, drop, set, eqb, ltb}
 use Rattle.std.specs.Prelude.{if◌then◌else◌}
 use Rattle.value.specs.Coding.{word_of}
 use Rattle.rules.specs.declared.Thread.{Thread}
 use Rattle.rules.specs.declared.Effect.{Effect}
 use Rattle.rules.specs.declared.Effect.TheVariants.{Goes, Ends, Waits, Fills, Empties, Makes, Spawns, Refuses}
-use Rattle.threads.specs.declared.Found.{Found}
-use Rattle.threads.specs.declared.Found.TheVariants.{At, Ready}
 use Rattle.threads.specs.Heads.{place_in, ready_place, readied, wait_place, head_of}
 
--- the pick-th ready record of heads that start at index i, with n ready before them; else how many are ready
-unfoldable pub found_from : ℕ → ℕ → ℕ → List ℕ → Found
-found_from pick i n [] = Ready n
-found_from pick i n (h ∷ hs) =
-    if eqb (place_in h) ready_place then (if eqb n pick then At i else found_from pick (i + 1) (n + 1) hs) else found_from pick (i + 1) n hs
+-- the place of the pick-th ready record of a row that starts at index i, with n ready before it; else how many are ready
+unfoldable pub found_by : {A : Type 0} → (A → ℕ) → ℕ → ℕ → ℕ → List A → Result ℕ ℕ
+found_by place pick i n [] = Err n
+found_by place pick i n (t ∷ ts) =
+    if eqb (place t) ready_place then (if eqb n pick then Ok i else found_by place pick (i + 1) (n + 1) ts) else found_by place pick (i + 1) n ts
+
+-- the same of heads
+abbrev pub found_from : ℕ → ℕ → ℕ → List ℕ → Result ℕ ℕ
+found_from = found_by place_in
 
 -- the element at i taken out, and v put at the end
 unfoldable pub shifted : ℕ → ℕ → List ℕ → List ℕ

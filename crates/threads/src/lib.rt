@@ -1,27 +1,28 @@
 // A seat's thread records, as heads and accumulators' words: read, searched, and written after an effect.
 #![tactic(auto)]
 
-ghost use Rattle.std.specs.Prelude.{◌≡◌, ◌-◌, ◌<◌, ◌%◌, length};
-ghost use Rattle.value.specs.Coding.{word_of};
-ghost use Rattle.threads.specs.Heads.{packed, head_of, ready_place, wait_place, readied, value_or, thread_in};
-ghost use Rattle.threads.specs.Row.{found_from, shifted, woken, sifted, row, put_at, taken_at, woken_at};
+ghost use Rattle.std.specs.Prelude.{◌≡◌, ℕ, ◌-◌, ◌<◌, ◌%◌, length};
+ghost use Rattle.threads.specs.Heads.{packed, fields_of, head_of, ready_place, place_in, wait_place, readied, thread_in};
+ghost use Rattle.threads.specs.Row.{found_by, shifted, woken, sifted, row, put_at, taken_at, woken_at};
 
-use lent::put64;
+use lent::put;
 use rules::Thread;
-use value::coding::Decoded;
 use value::{Value, coding};
 
-// The place in the row of the picked ready record, or how many are ready.
-#[derive(Clone, Copy)]
-pub enum Found {
-    At(usize),
-    Ready(usize),
+// A record of a row, by its place: 1 is ready.
+pub trait Placed {
+    ghost place: { Self → ℕ };
+
+    fn place(&self) -> u16
+        ensures { result ≡ place self.now };
 }
 
-fn wide(x: u16) -> u64
-    ensures { result ≡ x }
-{
-    x as u64
+impl Placed for u64 {
+    ghost place = { place_in };
+
+    fn place(&self) -> u16 {
+        low16(*self)
+    }
 }
 
 // The low sixteen bits.
@@ -35,34 +36,27 @@ pub fn low16(x: u64) -> u16
 fn pack(place: u16, position: u16, frame: u16, tag: u16) -> u64
     ensures { result ≡ packed place position frame tag }
 {
-    wide(place) + 65536 * (wide(position) + 65536 * (wide(frame) + 65536 * wide(tag)))
+    u64::from(place)
+        + 65536 * (u64::from(position) + 65536 * (u64::from(frame) + 65536 * u64::from(tag)))
 }
 
 #[tactic(auto, unfolding(crate::specs::Heads::head_of, value::specs::Coding::encoded))]
 fn head_of(place: u16, t: Thread) -> u64
     ensures { result ≡ head_of place t }
 {
-    let acc = t.acc;
-    let c = coding::encode(acc);
-    pack(place, t.position, t.frame, c.tag)
+    pack(place, t.position, t.frame, coding::encode(t.acc).tag)
 }
 
-#[tactic(auto, unfolding(value::specs::Coding::encoded))]
-fn word_of(v: Value) -> u64
-    ensures { result ≡ word_of v }
+// A head's four fields, from the low end: place, position, frame and accumulator's tag.
+pub fn fields(head: u64) -> [u16; 4]
+    ensures { result ≡ fields_of head }
 {
-    let c = coding::encode(v);
-    c.word
-}
-
-#[tactic(auto, unfolding(crate::specs::Heads::value_or))]
-fn value_or(d: Decoded) -> Value
-    ensures { result ≡ value_or d }
-{
-    match d {
-        Decoded::Good(v) => v,
-        Decoded::Malformed => Value::Nil,
-    }
+    [
+        low16(head),
+        low16(head / 0x1_0000),
+        low16(head / 0x1_0000_0000),
+        low16(head / 0x1_0000_0000_0000),
+    ]
 }
 
 // The thread of a record.
@@ -70,13 +64,11 @@ fn value_or(d: Decoded) -> Value
 pub fn thread_in(head: u64, word: u64) -> Thread
     ensures { result ≡ thread_in head word }
 {
-    let position = low16(head / 0x1_0000);
-    let frame = low16(head / 0x1_0000_0000);
-    let acc = value_or(coding::decode(low16(head / 0x1_0000_0000_0000), word));
+    let [_, position, frame, tag] = fields(head);
     Thread {
         position,
         frame,
-        acc,
+        acc: coding::decode(tag, word).unwrap_or(Value::Nil),
     }
 }
 
@@ -87,44 +79,32 @@ fn wait_place(l: usize) -> u16
     if l < 65534 { (l + 2) as u16 } else { 0 }
 }
 
-// A search through the row: the pick-th ready record.
-pub fn find_ready(heads: &[u64], pick: usize) -> Found
-    ensures { result ≡ found_from pick 0 0 heads.now }
+// A search through the row: the place of the pick-th ready record, or how many are ready.
+#[tactic(auto, using(std::proofs::lemmas::List::drop_more), unfolding(crate::specs::Row::found_by))]
+pub fn find_ready<T: Placed>(row: &[T], pick: usize) -> Result<usize, usize>
+    ensures { result ≡ found_by T.place pick 0 0 row.now }
 {
-    let mut i: usize = 0;
     let mut ready: usize = 0;
-    while i < heads.len() {
-        if heads[i] % 65536 == 1 {
+    for (i, record) in row.iter().enumerate() {
+        if record.place() == 1 {
             if ready == pick {
-                return Found::At(i);
+                return Ok(i);
             }
             ready += 1;
         }
-        i += 1;
     }
-    Found::Ready(ready)
+    Err(ready)
 }
 
-// Takes out the element at i, and puts v at the end.
-fn shift_in(s: &mut [u64], i: usize, v: u64)
-    requires { i < length s.old }
-    ensures { s.new ≡ shifted i v s.old }
-{
-    let mut k = i;
-    while k < s.len() - 1 {
-        s[k] = s[k + 1];
-        k += 1;
-    }
-    s[k] = v;
-}
-
+// Takes out the element at i, and puts v at the end; past the end nothing is done.
 fn shift(s: &mut [u64], i: usize, v: u64)
     ensures { s.new ≡ shifted i v s.old }
 {
-    if s.len() <= i {
-        return;
+    if i < s.len() {
+        s[i..].rotate_left(1);
+        let last = s.len() - 1;
+        s[last] = v;
     }
-    shift_in(s, i, v);
 }
 
 fn made_ready(head: u64) -> u64
@@ -134,43 +114,36 @@ fn made_ready(head: u64) -> u64
 }
 
 // All that wait at this place join the ready order at the back, the newest first.
-fn wake(heads: &mut [u64], accs: &mut [u64], place: u64)
+fn wake(heads: &mut [u64], accs: &mut [u64], place: u16)
     requires { length accs.old ≡ length heads.old }
     ensures { row (woken place heads.old) (sifted place heads.old accs.old) ≡ row heads.new accs.new }
 {
-    let mut j = heads.len();
-    while 0 < j {
-        j -= 1;
+    for j in (0..heads.len()).rev() {
         let head = heads[j];
-        if head % 65536 == place {
+        if head.place() == place {
             let word = accs[j];
-            shift_in(heads, j, made_ready(head));
-            shift_in(accs, j, word);
+            shift(heads, j, made_ready(head));
+            shift(accs, j, word);
         }
     }
 }
 
+#[tactic(auto, unfolding(crate::specs::Row::woken_at))]
 fn wake_first(heads: &mut [u64], accs: &mut [u64], live: usize, place: u16)
     ensures { woken_at live place (row heads.old accs.old) ≡ row heads.new accs.new }
 {
-    if heads.len() < live {
-        return;
+    if live <= heads.len() && live <= accs.len() {
+        wake(&mut heads[..live], &mut accs[..live], place);
     }
-    if accs.len() < live {
-        return;
-    }
-    let first: usize = 0;
-    wake(&mut heads[first..live], &mut accs[first..live], wide(place));
 }
 
 // A record written: the place 1 is ready.
-#[tactic(auto, unfolding(crate::specs::Row::put_at))]
+#[tactic(auto, unfolding(crate::specs::Row::put_at, value::specs::Coding::encoded))]
 pub fn put_record(heads: &mut [u64], accs: &mut [u64], i: usize, place: u16, t: Thread)
     ensures { put_at i place t (row heads.old accs.old) ≡ row heads.new accs.new }
 {
-    let acc = t.acc;
-    put64(heads, i, head_of(place, t));
-    put64(accs, i, word_of(acc));
+    put(heads, i, head_of(place, t));
+    put(accs, i, coding::encode(t.acc).word);
 }
 
 // The thread at i leaves the row.
@@ -182,18 +155,12 @@ pub fn take_record(heads: &mut [u64], accs: &mut [u64], i: usize)
     shift(accs, i, 0);
 }
 
-fn one_less(n: u32) -> usize
-    ensures { result ≡ n - 1 }
-{
-    if 1 <= n { (n - 1) as usize } else { 0 }
-}
-
 // The thread at i waits on a location: it joins that cell's list last.
 pub fn wait_record(heads: &mut [u64], accs: &mut [u64], i: usize, live: u32, l: usize, t: Thread)
     ensures { put_at (live - 1) (wait_place l) t (taken_at i (row heads.old accs.old)) ≡ row heads.new accs.new }
 {
     take_record(heads, accs, i);
-    let last = one_less(live);
+    let last = (live as usize).saturating_sub(1);
     put_record(heads, accs, last, wait_place(l), t);
 }
 

@@ -2,58 +2,42 @@
 #![tactic(auto)]
 
 ghost use Rattle.std.specs.Prelude.{◌≡◌, ◌%◌, take};
+ghost use Rattle.rules.specs.Turn.{answer_number};
 ghost use Rattle.threads.specs.Row.{found_from};
 ghost use Rattle.effects.specs.Enacted.{parts, turned};
 ghost use Rattle.turn.specs.Turn as Turn;
 
 use book::Tally;
+use cells::Cells;
 use image::records;
-use image::records::Fetched;
-use lent::get64;
-use rules::{Effect, Thread};
+use lent::get;
+use rules::{Answer, Effect, Thread};
 use slots::Standing;
-use threads::Found;
 
 // The row place of the thread to run, or the answer where none runs.
-#[derive(Clone, Copy)]
-pub enum Gate {
-    Go(usize),
-    Stop(u8),
-}
-
 #[tactic(auto, unfolding(crate::specs::Turn::gate_by))]
-fn gate_by(n: Tally, f: Found) -> Gate
-    ensures { result ≡ Turn.gate_by n f }
+fn gate_by(n: Tally, found: Result<usize, usize>) -> Result<usize, Answer>
+    ensures { result ≡ Turn.gate_by n found }
 {
-    match f {
-        Found::At(i) => {
-            if n.steps == 4294967295 {
-                return Gate::Stop(7);
-            }
-            Gate::Go(i)
-        }
-        Found::Ready(k) => {
-            if k == 0 {
-                return Gate::Stop(5);
-            }
-            if n.steps == 4294967295 {
-                return Gate::Stop(7);
-            }
-            Gate::Stop(6)
-        }
+    if found == Err(0) {
+        return Err(Answer::NotRunning);
     }
+    if n.steps == u32::MAX {
+        return Err(Answer::StepsSpent);
+    }
+    found.ok().ok_or(Answer::NoSuchPick)
 }
 
 // The row is searched only where a claim may run, and only its live records.
 #[tactic(auto, unfolding(crate::specs::Turn::gate_of))]
-fn gate_of(n: Tally, heads: &[u64], pick: usize) -> Gate
+fn gate_of(n: Tally, heads: &[u64], pick: usize) -> Result<usize, Answer>
     ensures { result ≡ Turn.gate_of n (found_from pick 0 0 (take n.live heads.now)) }
 {
     if n.length == 0 {
-        return Gate::Stop(5);
+        return Err(Answer::NotRunning);
     }
     if n.refusal != 0 {
-        return Gate::Stop(5);
+        return Err(Answer::NotRunning);
     }
     gate_by(n, rows::find_live(heads, n.live as usize, pick))
 }
@@ -69,16 +53,21 @@ fn asked(image: &[u8], start: u32, n: Tally, tags: &[u16], words: &[u64], th: Th
     ensures { result ≡ Turn.asked_in image.now start n tags.now words.now th }
 {
     match records::fetch(image, n.code, th.position) {
-        Fetched::Is(i, after) => {
-            let at = Standing {
+        Some((i, after)) => {
+            let cells = Cells {
+                tags,
+                words,
                 used: n.used,
                 start,
+            };
+            let at = Standing {
+                cells,
                 after: low16(after),
                 thread: th,
             };
-            choose::choose(tags, words, at, i)
+            choose::choose(at, i)
         }
-        Fetched::Nothing => Effect::Ends,
+        None => Effect::Ends,
     }
 }
 
@@ -91,14 +80,14 @@ pub fn turn(
     image: &[u8],
     start: u32,
     pick: usize,
-) -> u8
-    ensures { Turn.turn_on image.now start pick (parts book.old tags.old words.old heads.old accs.old) ≡ turned result (parts book.new tags.new words.new heads.new accs.new) }
+) -> Answer
+    ensures { Turn.turn_on image.now start pick (parts book.old tags.old words.old heads.old accs.old) ≡ turned (answer_number result) (parts book.new tags.new words.new heads.new accs.new) }
 {
     let n = book::read_book(&book[..]);
     match gate_of(n, &heads[..], pick) {
-        Gate::Stop(a) => a,
-        Gate::Go(i) => {
-            let th = threads::thread_in(get64(&heads[..], i), get64(&accs[..], i));
+        Err(answer) => answer,
+        Ok(i) => {
+            let th = threads::thread_in(get(&heads[..], i, 0), get(&accs[..], i, 0));
             let e = asked(image, start, n, &tags[..], &words[..], th);
             effects::perform(book, tags, words, heads, accs, e, start, i)
         }

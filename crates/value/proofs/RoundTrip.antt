@@ -16,14 +16,14 @@ use Rattle.laws.proofs.Choice.{chosen, both, first, second}
 use Rattle.laws.proofs.Floats.{finite-no-nan}
 use Rattle.value.specs.declared.Value.{Value}
 use Rattle.value.specs.declared.Value.TheVariants.{Integer, Float, Boolean, Nil, Location}
-use Rattle.value.specs.declared.coding.Decoded.TheVariants.{Good, Malformed}
+use Rattle.std.specs.Prelude.{Some, None}
 use Rattle.value.specs.Range.{well_formed}
 use Rattle.value.specs.Coding.{decoded, tag_of, word_of, only}
 use Rattle.value.proofs.Range.{range-fits, fits-range}
 
-pub decode-encode : (v : Value) → well_formed v ≡ true → decoded (tag_of v) (word_of v) ≡ Good v
+pub decode-encode : (v : Value) → well_formed v ≡ true → decoded (tag_of v) (word_of v) ≡ Some v
 unfolding decoded only tag_of word_of well_formed
-decode-encode (Integer z) h = ap (λ y. Good (Integer y)) (to_z-of_z w64 z (range-fits z h))
+decode-encode (Integer z) h = ap (λ y. Some (Integer y)) (to_z-of_z w64 z (range-fits z h))
 decode-encode (Float x) h =
     rw (of_bits-to_bits binary64 x (subst T (sym (first (fits binary64 x) (finite x) h)) tt), second (fits binary64 x) (finite x) h)
 decode-encode (Boolean true) h = refl
@@ -39,10 +39,10 @@ pub record Stands (t w : ℕ) (v : Value) : Type 0 where
 
 module _ (t w : ℕ) (v : Value) (h : w < 2 ^ 64) where
   -- one kind: its tag and its test hold, and u is the value
-  kind : (k : ℕ) (test : Bool) (u : Value) → eqb t k ≡ true → only test u ≡ Good v → (test ≡ true → Stands k w u) → Stands t w v
+  kind : (k : ℕ) (test : Bool) (u : Value) → eqb t k ≡ true → only test u ≡ Some v → (test ≡ true → Stands k w u) → Stands t w v
   unfolding only
   kind k test u p e f =
-      chosen test (Good u) Malformed e
+      chosen test (Some u) None e
       (λ q r. subst (λ (n : ℕ). Stands n w v) (sym (eqb-true t k p)) (subst (Stands k w) (cc) (f q)))
       (λ q r. clash (cc))
 
@@ -51,7 +51,7 @@ module _ (t w : ℕ) (v : Value) (h : w < 2 ^ 64) where
   bit true p e = sym (eqb-true w 1 e)
   bit false p e = let n = eqb-false w 1 e in omega (arith, leb-true w 1 p)
 
-  pub encode-decode : decoded t w ≡ Good v → Stands t w v
+  pub encode-decode : decoded t w ≡ Some v → Stands t w v
   unfolding decoded only tag_of word_of well_formed
   encode-decode e =
       chosen (eqb t 1) _ _ e

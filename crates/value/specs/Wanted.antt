@@ -1,36 +1,35 @@
 -- Document 01, "Instructions": "its value has the kind wanted". Assumes nothing.
+use Rattle.std.specs.Prelude.{ℕ, Bool, ℤ, Float}
+use Rattle.std.specs.Prelude.{Result, Ok, Err}
 use Rattle.value.specs.declared.Value.{Value}
-use Rattle.value.specs.declared.Value.TheVariants.{Integer, Float, Boolean, Nil, Location}
-use Rattle.value.specs.declared.wanted.Whole.{Whole}
-use Rattle.value.specs.declared.wanted.Real.{Real}
-use Rattle.value.specs.declared.wanted.Truth.{Truth}
-use Rattle.value.specs.declared.wanted.Place.{Place}
-use Rattle.value.specs.Refusals.{wrong_kind}
+use Rattle.value.specs.declared.Value.TheVariants.{Integer, Boolean, Nil, Location}
+use Rattle.value.specs.declared.refusals.Refusal.{Refusal}
+use Rattle.value.specs.declared.refusals.Refusal.TheVariants.{WrongKind}
 
-unfoldable pub as_integer : Value → Whole
-as_integer (Integer z) = Whole.Is z
-as_integer (Float x) = Whole.Refused wrong_kind
-as_integer (Boolean b) = Whole.Refused wrong_kind
-as_integer Nil = Whole.Refused wrong_kind
-as_integer (Location l) = Whole.Refused wrong_kind
+unfoldable pub as_integer : Value → Result ℤ Refusal
+as_integer (Integer z) = Ok z
+as_integer (Value.Float x) = Err WrongKind
+as_integer (Boolean b) = Err WrongKind
+as_integer Nil = Err WrongKind
+as_integer (Location l) = Err WrongKind
 
-unfoldable pub as_float : Value → Real
-as_float (Integer z) = Real.Refused wrong_kind
-as_float (Float x) = Real.Is x
-as_float (Boolean b) = Real.Refused wrong_kind
-as_float Nil = Real.Refused wrong_kind
-as_float (Location l) = Real.Refused wrong_kind
+unfoldable pub as_float : Value → Result Float Refusal
+as_float (Integer z) = Err WrongKind
+as_float (Value.Float x) = Ok x
+as_float (Boolean b) = Err WrongKind
+as_float Nil = Err WrongKind
+as_float (Location l) = Err WrongKind
 
-unfoldable pub as_boolean : Value → Truth
-as_boolean (Integer z) = Truth.Refused wrong_kind
-as_boolean (Float x) = Truth.Refused wrong_kind
-as_boolean (Boolean b) = Truth.Is b
-as_boolean Nil = Truth.Refused wrong_kind
-as_boolean (Location l) = Truth.Refused wrong_kind
+unfoldable pub as_boolean : Value → Result Bool Refusal
+as_boolean (Integer z) = Err WrongKind
+as_boolean (Value.Float x) = Err WrongKind
+as_boolean (Boolean b) = Ok b
+as_boolean Nil = Err WrongKind
+as_boolean (Location l) = Err WrongKind
 
-unfoldable pub as_location : Value → Place
-as_location (Integer z) = Place.Refused wrong_kind
-as_location (Float x) = Place.Refused wrong_kind
-as_location (Boolean b) = Place.Refused wrong_kind
-as_location Nil = Place.Refused wrong_kind
-as_location (Location l) = Place.Is l
+unfoldable pub as_location : Value → Result ℕ Refusal
+as_location (Integer z) = Err WrongKind
+as_location (Value.Float x) = Err WrongKind
+as_location (Boolean b) = Err WrongKind
+as_location Nil = Err WrongKind
+as_location (Location l) = Ok l

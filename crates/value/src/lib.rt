@@ -6,7 +6,7 @@ pub mod refusals;
 pub mod wanted;
 pub mod words;
 
-#[derive(Clone, Copy)]
+#[derive(Clone, Copy, Debug, PartialEq)]
 pub enum Value {
     Integer(i64),
     Float(f64),

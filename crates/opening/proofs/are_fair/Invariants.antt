@@ -1,10 +1,6 @@
 -- `opening::are_fair` meets its contract. The loop's invariant: what is left to test, with the cells given away, is what was to be tested. Assumes nothing.
-use Prim.Native.Nat.{◌-◌}
 use Rattle.opening.proofs.Openings.{FairLeft}
 use Rattle.opening.proofs.are_fair.Given as goal
 
 abbrev pub invariant-loop-k : goal.invariant-loop-k
 invariant-loop-k l = FairLeft l.shares l.seats l.sum l.k
-
-abbrev pub decreases-loop-k : goal.decreases-loop-k
-decreases-loop-k l = l.seats - l.k

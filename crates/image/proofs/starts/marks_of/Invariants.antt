@@ -5,8 +5,8 @@ use lib.ListN.{length}
 use Rattle.image.specs.Marks.{marks_from, marks}
 use Rattle.image.proofs.starts.marks_of.Given as goal
 
-abbrev pub invariant-loop-row : goal.invariant-loop-row
-invariant-loop-row l = marks_from (suc (length l.image)) l.image l.at l.row ≡ marks l.image l.code
+abbrev pub invariant-loop-behind : goal.invariant-loop-behind
+invariant-loop-behind l = marks_from (suc (length l.image)) l.image l.at l.row ≡ marks l.image l.code
 
-abbrev pub decreases-loop-row : goal.decreases-loop-row
-decreases-loop-row l = length l.image - l.at
+abbrev pub decreases-loop-behind : goal.decreases-loop-behind
+decreases-loop-behind l = length l.image - l.at
