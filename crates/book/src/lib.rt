@@ -50,6 +50,7 @@ pub fn sum_or(a: u32, b: u32) -> u32
     a.checked_add(b).unwrap_or(a)
 }
 
+// saturating_add by one; the name is that of the sum its clause cites.
 pub fn one_more(n: u32) -> u32
     ensures { result ≡ sum_or n 1 }
 {

@@ -94,7 +94,7 @@ fn put_below(n: u32, tags: &mut [u16], words: &mut [u64], i: usize, tag: u16, wo
     put(words, i, word);
 }
 
-// How far a location lies behind the region's start.
+// How far a location lies behind the region's start: one subtraction for two callers.
 fn past(l: usize, start: u32) -> usize
     ensures { result ≡ l - start }
 {

@@ -195,6 +195,7 @@ fn switch(at: Standing, s: u8, a: u16, b: u16) -> Result<Effect, Refusal>
     Ok(Effect::Goes(moved_to(target, at.thread, at.thread.acc)))
 }
 
+// One arm an instruction; a table of closures is no plainer, and 01 is read arm by arm.
 #[tactic(auto, unfolding(rules::specs::Decide::decide, rules::specs::Decide::makes))]
 fn decided(at: Standing, i: Instruction) -> Result<Effect, Refusal>
     ensures { told result ≡ decision at.entry i }

@@ -1,4 +1,5 @@
-// The reader: the first fault of an image, or how a good one is laid out.
+// The reader: the first fault of an image, or how a good one is laid out. Its walks are loops: they go on by the length of what
+// stands at a place, which no iterator of the library does.
 ghost use Rattle.std.specs.Prelude.{◌≡◌, suc, ◌≤◌, length, Some};
 ghost use Rattle.image.specs.Reading.{ending, walk, read_code, read_inputs, read_image};
 

@@ -1,4 +1,5 @@
-// The starts of instructions, and the first instruction that aims at anything else.
+// The starts of instructions, and the first instruction that aims at anything else. Its walks are loops: they go on by the length
+// of the instruction at a place, which no iterator of the library does.
 ghost use Rattle.std.specs.Prelude.{◌≡◌, suc, ◌≤◌, length};
 ghost use Rattle.kinds.specs.Flows.{targets};
 ghost use Rattle.image.specs.Reading.{start, astray};

@@ -1,4 +1,5 @@
-// Bytes of a body, 0 past its end, and numbers made of them, the lower byte first.
+// Bytes of a body, 0 past its end, and numbers made of them, the lower byte first, as the library's from_le_bytes makes them; the
+// clauses speak of the body.
 ghost use Rattle.std.specs.Prelude.{◌≡◌, [], ◌∷◌};
 ghost use Rattle.kinds.specs.Bytes.{byte_in, number, word_in};
 

@@ -133,7 +133,8 @@ pub fn instruction_meant(kind: u8, body: &[u8]) -> Option<Instruction>
     Some(meant)
 }
 
-// Whether an instruction's body means anything. Only a FLOAT is made for it.
+// Whether an instruction's body means anything. Only a FLOAT is made for it: is_some of the meaning makes every instruction, and
+// a walk is slower.
 #[tactic(auto, unfolding(crate::specs::Table::instruction_kind, crate::specs::Table::instructions))]
 pub fn is_meant(kind: u8, body: &[u8]) -> bool
     ensures { result ≡ is_some ((instruction_kind kind).means body.now) }
@@ -159,6 +160,7 @@ pub fn record_size(kind: u8) -> usize
     }
 }
 
+// A value as a record; the name is that of the definition that the table cites.
 fn input_meant(v: Option<Value>) -> Option<Record>
     ensures { result ≡ input_means v }
 {

@@ -28,16 +28,11 @@ fn start_book(book: &mut [u32], long: u32, code: u32, used: u32, live: u32)
     put(book, 8, 0);
 }
 
+// A cast that loses bits, which no From of the library does.
 fn low32(x: usize) -> u32
     ensures { result ≡ x % 4294967296 }
 {
     (x % 4294967296) as u32
-}
-
-fn low16(x: u32) -> u16
-    ensures { result ≡ x % 65536 }
-{
-    (x % 65536) as u16
 }
 
 // What is known of an image before anything is written.
@@ -83,7 +78,7 @@ fn write_root(heads: &mut [u64], accs: &mut [u64], start: u32)
 {
     let root = Thread {
         position: 0,
-        frame: low16(start),
+        frame: threads::low16(u64::from(start)),
         acc: Value::Nil,
     };
     threads::put_record(heads, accs, 0, 1, root);

@@ -1,4 +1,5 @@
-// The five public calls for C and Rust: thin exports, numbers only. A slice goes as a pointer and a length.
+// The five public calls for C and Rust: thin exports, numbers only. A slice goes as a pointer and a length. The C interface has
+// the six buffers, the numbers and the two structs.
 #![tactic(auto)]
 
 ghost use Rattle.std.specs.Prelude.{◌≡◌};

@@ -15,7 +15,8 @@ pub enum Kind {
     Mcell,
 }
 
-// What a seat finds where it looks for a cell.
+// What a seat finds where it looks for a cell. Its three cases are refused by different numbers; an Option in an Option is no
+// plainer.
 #[derive(Clone, Copy, Debug, PartialEq)]
 pub enum Slot {
     Missing,
@@ -83,7 +84,8 @@ pub enum Status {
     Refused,
 }
 
-// A report; its refusal is 0 where there is none, and its result nothing where cell 0 is empty, which is not nil.
+// A report. Its refusal is the number that the book keeps and C is told, 0 where there is none; its result is nothing where
+// cell 0 is empty, which is not nil.
 #[derive(Clone, Copy, Debug, PartialEq)]
 pub struct Report {
     pub status: Status,

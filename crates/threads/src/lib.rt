@@ -25,7 +25,7 @@ impl Placed for u64 {
     }
 }
 
-// The low sixteen bits.
+// The low sixteen bits: a cast that loses bits, which no From of the library does.
 pub fn low16(x: u64) -> u16
     ensures { result ≡ x % 65536 }
 {

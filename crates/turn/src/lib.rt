@@ -42,12 +42,6 @@ fn gate_of(n: Tally, heads: &[u64], pick: usize) -> Result<usize, Answer>
     gate_by(n, rows::find_live(heads, n.live as usize, pick))
 }
 
-fn low16(x: usize) -> u16
-    ensures { result ≡ x % 65536 }
-{
-    (x % 65536) as u16
-}
-
 // What the thread's instruction asks for, before room is tested: nothing is written.
 fn asked(image: &[u8], start: u32, n: Tally, tags: &[u16], words: &[u64], th: Thread) -> Effect
     ensures { result ≡ Turn.asked_in image.now start n tags.now words.now th }
@@ -62,7 +56,7 @@ fn asked(image: &[u8], start: u32, n: Tally, tags: &[u16], words: &[u64], th: Th
             };
             let at = Standing {
                 cells,
-                after: low16(after),
+                after: threads::low16(after as u64),
                 thread: th,
             };
             choose::choose(at, i)

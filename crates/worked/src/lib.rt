@@ -50,7 +50,7 @@ fn played(
     })
 }
 
-// The report that is wanted, the result bit for bit.
+// The report that is wanted, the result bit for bit, which == of floats does not say.
 fn says(r: Report, want: Report) -> bool {
     r == want && r.result.map(coding::encode) == want.result.map(coding::encode)
 }
