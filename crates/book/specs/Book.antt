@@ -61,7 +61,7 @@ tally_after (Fills t k l v) i n = tally_with n n.used n.live n.refusal n.halted
 tally_after (Empties t l) i n = tally_with n n.used n.live n.refusal n.halted
 tally_after (Makes t k m) i n = tally_with n (sum_or n.used m) n.live n.refusal n.halted
 tally_after (Spawns t new) i n = tally_with n n.used (sum_or n.live 1) n.refusal n.halted
-tally_after (Refuses r) i n = tally_with n n.used n.live (refusal_number r) (narrow i)
+tally_after (Refuses m) i n = tally_with n n.used n.live m (narrow i)
 
 -- "then room"
 unfoldable pub room_in : Tally → Effect → Effect
@@ -70,6 +70,6 @@ room_in n Ends = Ends
 room_in n (Waits t l) = Waits t l
 room_in n (Fills t k l v) = Fills t k l v
 room_in n (Empties t l) = Empties t l
-room_in n (Makes t k m) = if leb (n.used + m) n.cells then Makes t k m else Refuses NoCellsLeft
-room_in n (Spawns t new) = if ltb n.live n.threads then Spawns t new else Refuses NoThreadsLeft
+room_in n (Makes t k m) = if leb (n.used + m) n.cells then Makes t k m else Refuses (refusal_number NoCellsLeft)
+room_in n (Spawns t new) = if ltb n.live n.threads then Spawns t new else Refuses (refusal_number NoThreadsLeft)
 room_in n (Refuses m) = Refuses m

@@ -2,11 +2,9 @@
 #![tactic(auto)]
 
 ghost use Rattle.std.specs.Prelude.{◌≡◌, set};
-ghost use Rattle.value.specs.Refusals.{refusal_number};
 ghost use Rattle.book.specs.Book.{tally_in, sum_or, narrow, next_step};
 
 use lent::{get, put};
-use value::refusals::Refusal;
 
 // Where an effect changes a number.
 pub const USED: usize = 4;
@@ -89,10 +87,10 @@ pub fn count_with(book: &mut [u32], at: usize, n: u32)
 }
 
 // One step more, and the claim refused, its thread at place i of the row.
-pub fn count_refused(book: &mut [u32], refusal: Refusal, i: usize)
-    ensures { book.new ≡ set (set (set book.old 6 (refusal_number refusal)) 7 (narrow i)) 8 (next_step book.old) }
+pub fn count_refused(book: &mut [u32], m: u8, i: usize)
+    ensures { book.new ≡ set (set (set book.old 6 m) 7 (narrow i)) 8 (next_step book.old) }
 {
-    put(book, 6, u32::from(u8::from(refusal)));
+    put(book, 6, u32::from(m));
     put(book, 7, narrowed(i));
     count(book);
 }

@@ -146,7 +146,7 @@ fn make(at: Standing, kind: Kind, n: u16) -> Effect
 fn allocate(at: Standing, kind: Kind, s: u8) -> Result<Effect, Refusal>
     ensures { told result ≡ allocates at.entry.after (seen at.entry) at.entry.thread kind s }
 {
-    let size = size_of(i64::try_from(at.slot_value(s)?)?)?;
+    let size = size_of(at.slot_value(s).and_then(i64::try_from))?;
     Ok(make(at, kind, size))
 }
 
@@ -231,5 +231,5 @@ fn decided(at: Standing, i: Instruction) -> Result<Effect, Refusal>
 pub fn choose(at: Standing, i: Instruction) -> Effect
     ensures { result ≡ decision at.entry i }
 {
-    decided(at, i).unwrap_or_else(Effect::Refuses)
+    decided(at, i).unwrap_or_else(|refusal| Effect::Refuses(u8::from(refusal)))
 }

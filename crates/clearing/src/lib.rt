@@ -3,7 +3,7 @@
 
 ghost use Rattle.std.specs.Prelude.{◌≡◌};
 ghost use Rattle.rules.specs.Calls.{clears};
-ghost use Rattle.rules.specs.Refused.{answered};
+ghost use Rattle.rules.specs.Refused.{answered, answered_at};
 ghost use Rattle.state.specs.State.{state, Stands, machine_of};
 ghost use Rattle.calls.specs.Calls as Calls;
 
@@ -22,7 +22,8 @@ fn clear_in(
     seat: u32,
 ) -> Result<(), CallRefusal>
     requires { Stands (state book.old tags.old words.old heads.old accs.old images.old) }
-    ensures { Calls.said_to (machine_of (state book.old tags.old words.old heads.old accs.old images.old)) (state book.old tags.old words.old heads.old accs.old images.old) seat clears ≡ Calls.moved (answered result) (state book.new tags.new words.new heads.new accs.new images.new) }
+    ensures outcome { Calls.said_to (machine_of (state book.old tags.old words.old heads.old accs.old images.old)) (state book.old tags.old words.old heads.old accs.old images.old) seat clears ≡ Calls.moved (answered result) (state book.new tags.new words.new heads.new accs.new images.new) }
+    ensures placeless { answered_at result ≡ 0 }
 {
     let k = seat as usize;
     let Some(region) = seats::region_of(&book[..], k) else {
@@ -56,7 +57,8 @@ pub fn clear(
     images: &mut [u8],
     seat: u32,
 ) -> Result<(), CallRefusal>
-    ensures { Calls.clear_call (state book.old tags.old words.old heads.old accs.old images.old) seat ≡ Calls.moved (answered result) (state book.new tags.new words.new heads.new accs.new images.new) }
+    ensures outcome { Calls.clear_call (state book.old tags.old words.old heads.old accs.old images.old) seat ≡ Calls.moved (answered result) (state book.new tags.new words.new heads.new accs.new images.new) }
+    ensures placeless { answered_at result ≡ 0 }
 {
     let lent = Lent {
         book: &book[..],

@@ -7,7 +7,6 @@ use lib.ListN.{get_or, set}
 use lib.Dec.{leb, ltb}
 use Rattle.value.specs.declared.Value.{Value}
 use Rattle.value.specs.Coding.{word_of}
-use Rattle.value.specs.declared.refusals.Refusal.{Refusal}
 use Rattle.value.specs.declared.refusals.Refusal.TheVariants.{NoCellsLeft, NoThreadsLeft}
 use Rattle.value.specs.Refusals.{refusal_number}
 use Rattle.lent.specs.Runs.{filled_from}
@@ -92,17 +91,17 @@ module _ (e : Effect) (start i : ℕ) (p : Parts) where
   unfolding room_in answer_of tally_after tags_after words_after row_after tally_in
   spawns {new} {t} ie l f room n q u = enacts (Spawns t new) (rw (ie, ← l, ← f, room)) refl (sym (u ∙ rw (n, l) (book-live p.book _))) refl refl (rw l at q)
 
-  pub refuses : {r : Refusal} {b : List ℕ} → e ≡ Refuses r → b ≡ set (set (set p.book 6 (refusal_number r)) 7 (narrow i)) 8 (sum_or (get_or p.book 8 0) 1)
+  pub refuses : {m : ℕ} {b : List ℕ} → e ≡ Refuses m → b ≡ set (set (set p.book 6 m) 7 (narrow i)) 8 (sum_or (get_or p.book 8 0) 1)
       → enacted e start i p ≡ turned 3 (parts b p.tags p.words p.heads p.accs)
   unfolding room_in answer_of tally_after tags_after words_after row_after tally_in
-  refuses {r} ie u = enacts (Refuses r) (rw ie) refl (sym (u ∙ book-refused p.book (refusal_number r) (narrow i))) refl refl refl
+  refuses {m} ie u = enacts (Refuses m) (rw ie) refl (sym (u ∙ book-refused p.book m (narrow i))) refl refl refl
 
   pub no_cells : {k : Kind} {m used cells : ℕ} {t : Thread} → e ≡ Makes t k m → used ≡ get_or p.book 4 0 → cells ≡ get_or p.book 0 0 → leb (used + m) cells ≡ false
-      → enacted e start i p ≡ enacted (Refuses NoCellsLeft) start i p
+      → enacted e start i p ≡ enacted (Refuses (refusal_number NoCellsLeft)) start i p
   unfolding enacted room_in tally_in
   no_cells ie l f room = rw (ie, ← l, ← f, room)
 
   pub no_threads : {live share : ℕ} {new t : Thread} → e ≡ Spawns t new → live ≡ get_or p.book 5 0 → share ≡ get_or p.book 1 0 → ltb live share ≡ false
-      → enacted e start i p ≡ enacted (Refuses NoThreadsLeft) start i p
+      → enacted e start i p ≡ enacted (Refuses (refusal_number NoThreadsLeft)) start i p
   unfolding enacted room_in tally_in
   no_threads ie l f room = rw (ie, ← l, ← f, room)

@@ -11,10 +11,10 @@ use lent::get;
 use rules::{Answer, Effect, Kind, Thread};
 use value::refusals::Refusal;
 
-fn refuse(book: &mut [u32], refusal: Refusal, i: usize) -> Answer
-    ensures { (tags words heads accs : List ℕ) (start : ℕ) → Enacted.enacted (Refuses refusal) start i (Enacted.parts book.old tags words heads accs) ≡ Enacted.turned (answer_number result) (Enacted.parts book.new tags words heads accs) }
+fn refuse(book: &mut [u32], m: u8, i: usize) -> Answer
+    ensures { (tags words heads accs : List ℕ) (start : ℕ) → Enacted.enacted (Refuses m) start i (Enacted.parts book.old tags words heads accs) ≡ Enacted.turned (answer_number result) (Enacted.parts book.new tags words heads accs) }
 {
-    book::count_refused(book, refusal, i);
+    book::count_refused(book, m, i);
     Answer::Refused
 }
 
@@ -34,7 +34,7 @@ fn make(
     let cells = get(&book[..], 0, 0);
     let used = get(&book[..], USED, 0);
     if (cells as u64) < used as u64 + m as u64 {
-        return refuse(book, Refusal::NoCellsLeft, i);
+        return refuse(book, u8::from(Refusal::NoCellsLeft), i);
     }
     cells::make(tags, used, k, m);
     threads::put_record(heads, accs, i, 1, t);
@@ -56,7 +56,7 @@ fn spawn(
     let share = get(&book[..], 1, 0);
     let live = get(&book[..], LIVE, 0);
     if share <= live {
-        return refuse(book, Refusal::NoThreadsLeft, i);
+        return refuse(book, u8::from(Refusal::NoThreadsLeft), i);
     }
     threads::spawn_record(heads, accs, i, live, new, t);
     book::count_with(book, LIVE, book::one_more(live));
@@ -108,6 +108,6 @@ pub fn perform(
         }
         Effect::Makes(t, k, m) => make(book, tags, heads, accs, k, m, t, i),
         Effect::Spawns(t, new) => spawn(book, heads, accs, new, t, i),
-        Effect::Refuses(refusal) => refuse(book, refusal, i),
+        Effect::Refuses(m) => refuse(book, m, i),
     }
 }

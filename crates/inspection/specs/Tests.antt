@@ -119,11 +119,11 @@ is_idle n =
     && (eqb n.used 0 && (eqb n.live 0 && (eqb n.refusal 0 && (eqb n.halted 0 && eqb n.steps 0))))
 
 -- zero wherever nothing is held
-unfoldable pub parts_bare : Parts → Bool
-parts_bare p = all is_zero p.tags && (all is_zero p.words && (all is_zero p.heads && (all is_zero p.accs && all is_zero p.image)))
+unfoldable pub parts_bare : List ℕ → List ℕ → List ℕ → List ℕ → List ℕ → Bool
+parts_bare tags words heads accs image = all is_zero tags && (all is_zero words && (all is_zero heads && (all is_zero accs && all is_zero image)))
 
 unfoldable pub vacant_stands : Tally → Parts → Bool
-vacant_stands n p = is_idle n && parts_bare p
+vacant_stands n p = is_idle n && parts_bare p.tags p.words p.heads p.accs p.image
 
 -- "its buffers have their minimum lengths": of a seat, its parts have theirs
 unfoldable pub lengths_stand : Parts → Bool

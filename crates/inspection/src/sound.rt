@@ -226,14 +226,10 @@ fn is_idle(n: Tally) -> bool
 
 // Every part but the book is bare.
 #[tactic(auto, unfolding(crate::specs::Tests::parts_bare))]
-pub fn parts_bare(seat: Seat) -> bool
-    ensures { result ≡ Tests.parts_bare (parts_of seat.entry) }
+pub fn parts_bare(tags: &[u16], words: &[u64], heads: &[u64], accs: &[u64], image: &[u8]) -> bool
+    ensures { result ≡ Tests.parts_bare tags.now words.now heads.now accs.now image.now }
 {
-    is_bare(seat.tags)
-        && is_bare(seat.words)
-        && is_bare(seat.heads)
-        && is_bare(seat.accs)
-        && is_bare(seat.image)
+    is_bare(tags) && is_bare(words) && is_bare(heads) && is_bare(accs) && is_bare(image)
 }
 
 // A vacant seat: nothing but its shares.
@@ -241,7 +237,7 @@ pub fn parts_bare(seat: Seat) -> bool
 fn vacant_stands(n: Tally, seat: Seat) -> bool
     ensures { result ≡ Tests.vacant_stands n (parts_of seat.entry) }
 {
-    is_idle(n) && parts_bare(seat)
+    is_idle(n) && parts_bare(seat.tags, seat.words, seat.heads, seat.accs, seat.image)
 }
 
 // Each part has its length.

@@ -1,4 +1,4 @@
--- What the tables accept is sane: its floats are finite, its integers in range, and its frames have slots. Assumes nothing.
+-- What the tables accept is sane: its floats are finite, its integers in range, its frames have slots; and no body is longer than eight bytes. Assumes nothing.
 use Prim.Native.Nat.{ℕ, zero, suc, ◌-◌, ◌^◌, ◌<◌, ◌≤◌}
 use native.Mathlib.Omega.{arith}
 use mathlib.Core.Path.{◌≡◌, refl, subst}
@@ -56,6 +56,15 @@ every-record p h e k = go (leb 128 k)
 either : {A : Type 0} (p : A → Bool) (t : Bool) (a b : A) → (t ≡ true → p a ≡ true) → p b ≡ true → p (if t then a else b) ≡ true
 either p true a b f h = f refl
 either p false a b f h = h
+
+-- lengths
+pub instruction-size : (k : ℕ) → (instruction_kind k).size ≤ 8
+unfolding instructions
+instruction-size k = leb-true _ 8 (every-instruction (λ r. leb r.size 8) refl refl k)
+
+pub record-size : (k : ℕ) → (record_kind k).size ≤ 8
+unfolding records
+record-size k = leb-true _ 8 (every-record (λ r. leb r.size 8) refl refl k)
 
 -- instructions
 abbrev sane_is : Option Instruction → Bool

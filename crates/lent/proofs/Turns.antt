@@ -25,3 +25,11 @@ module _ {A : Type 0} where
   replicate_more v [] i h = below-zero i h
   replicate_more v (y ∷ s) zero h = refl
   replicate_more v (y ∷ s) (suc i) h = rw (add-one (suc i)) (ap (λ (r : List A). v ∷ r) (rw (add-one i) at (replicate_more v s i (omega arith))))
+
+  -- one more element copied
+  pub copied_more : (v s : List A) (i : ℕ) (x : A) → i < length v → i < length s → x ≡ get_or v i x → set (take i v ++ drop i s) i x ≡ take (i + 1) v ++ drop (i + 1) s
+  copied_more [] s i x h l e = below-zero i h
+  copied_more (y ∷ v) [] i x h l e = below-zero i l
+  copied_more (y ∷ v) (z ∷ s) zero x h l e = rw e refl
+  copied_more (y ∷ v) (z ∷ s) (suc i) x h l e =
+      rw (add-one (suc i)) (ap (λ (r : List A). y ∷ r) (rw (add-one i) at (copied_more v s i x (omega arith) (omega arith) e)))

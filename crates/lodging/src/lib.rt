@@ -113,7 +113,8 @@ pub fn clear_seat(
     accs: &mut [u64],
     kept: &mut [u8],
 ) -> Result<(), CallRefusal>
-    ensures { Lodged.clear_on (parts book.old tags.old words.old heads.old accs.old kept.old) ≡ Lodged.cleared (answered result) (parts book.new tags.new words.new heads.new accs.new kept.new) }
+    ensures outcome { Lodged.clear_on (parts book.old tags.old words.old heads.old accs.old kept.old) ≡ Lodged.cleared (answered result) (parts book.new tags.new words.new heads.new accs.new kept.new) }
+    ensures placeless { answered_at result ≡ 0 }
 {
     if get(&book[..], 2, 0) == 0 {
         return Err(CallRefusal::Vacant);

@@ -5,7 +5,7 @@ ghost use Rattle.std.specs.Prelude.{◌≡◌, ◌&&◌, ◌+◌, ◌%◌, ◌�
 ghost use Rattle.laws.specs.Lists.{all};
 ghost use Rattle.lent.specs.Runs.{wiped};
 ghost use Rattle.rules.specs.Calls.{fair_share, total, may_open};
-ghost use Rattle.rules.specs.Refused.{answered};
+ghost use Rattle.rules.specs.Refused.{answered, answered_at};
 ghost use Rattle.state.specs.State.{state};
 ghost use Rattle.calls.specs.Calls as Calls;
 ghost use Rattle.opening.specs.Opening.{shares_over};
@@ -80,7 +80,8 @@ pub fn open(
     images: &mut [u8],
     shares: &[u32],
 ) -> Result<(), CallRefusal>
-    ensures { Calls.open_call (state book.old tags.old words.old heads.old accs.old images.old) shares.now ≡ Calls.moved (answered result) (state book.new tags.new words.new heads.new accs.new images.new) }
+    ensures outcome { Calls.open_call (state book.old tags.old words.old heads.old accs.old images.old) shares.now ≡ Calls.moved (answered result) (state book.new tags.new words.new heads.new accs.new images.new) }
+    ensures placeless { answered_at result ≡ 0 }
 {
     let lent = Lent {
         book: &book[..],
@@ -90,7 +91,7 @@ pub fn open(
         accs: &accs[..],
         images: &images[..],
     };
-    if !limits::is_long(lent) {
+    if !lent.is_long() {
         return Err(CallRefusal::TooShort);
     }
     if !may_open(shares) {

@@ -2,7 +2,7 @@
 #![tactic(auto)]
 
 ghost use Rattle.std.specs.Prelude.{◌≡◌};
-ghost use Rattle.rules.specs.Refused.{answered};
+ghost use Rattle.rules.specs.Refused.{answered, answered_at};
 ghost use Rattle.state.specs.State.{state, state_of, Stands, machine_of};
 ghost use Rattle.calls.specs.Calls as Calls;
 
@@ -13,7 +13,8 @@ use state::{seats, whole};
 // On a sound state.
 fn report_in(lent: Lent, seat: u32) -> Result<Report, CallRefusal>
     requires { Stands (state_of lent) }
-    ensures { Calls.shown_in (machine_of (state_of lent.entry)) seat ≡ Calls.shown (answered result) (Calls.reported result) }
+    ensures outcome { Calls.shown_in (machine_of (state_of lent.entry)) seat ≡ Calls.shown (answered result) (Calls.reported result) }
+    ensures placeless { answered_at result ≡ 0 }
 {
     let k = seat as usize;
     let Some(region) = seats::region_of(lent.book, k) else {
@@ -59,7 +60,8 @@ pub fn report(
     images: &[u8],
     seat: u32,
 ) -> Result<Report, CallRefusal>
-    ensures { Calls.report_call (state book.now tags.now words.now heads.now accs.now images.now) seat ≡ Calls.shown (answered result) (Calls.reported result) }
+    ensures outcome { Calls.report_call (state book.now tags.now words.now heads.now accs.now images.now) seat ≡ Calls.shown (answered result) (Calls.reported result) }
+    ensures placeless { answered_at result ≡ 0 }
 {
     let lent = Lent {
         book,

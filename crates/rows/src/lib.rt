@@ -89,9 +89,13 @@ fn find(heads: &[u64], pick: usize) -> Result<usize, usize>
     Err(before)
 }
 
-// The pick-th ready record of the live ones.
+// The pick-th ready record of the live ones. A row that is live to its end is searched whole: its length is known then, and the
+// search is laid out without a loop.
 pub fn find_live(heads: &[u64], live: usize, pick: usize) -> Result<usize, usize>
     ensures { result ≡ found_from pick 0 0 (take live heads.now) }
 {
-    find(&heads[..live.min(heads.len())], pick)
+    if heads.len() <= live {
+        return find(heads, pick);
+    }
+    find(&heads[..live], pick)
 }

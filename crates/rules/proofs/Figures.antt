@@ -37,7 +37,7 @@ module _ (c : Claim) (l : ℕ) (v : Value) (is : look c l ≡ Slot.Full Icell v)
   performed i (empties {l = m} e) = elsewhere m _ _ _ e (λ q. clash (cc)) (λ q. clash (cc))
   performed i makes-some = look-more c l _ _ (λ q. clash (cc)) ∙ is
   performed i spawns = same _ refl refl
-  performed i refuses = same _ refl refl
+  performed i (refuses e) = same _ refl refl
 
   turned : {p : ℕ} {t : Turned} → Turns c p t → look t.claim l ≡ Slot.Full Icell v
   unfolding ran

@@ -1,6 +1,7 @@
--- What an instruction may do: fill an empty cell of its own kind, wait on an empty cell, empty a full M-cell, be refused, or leave the cells alone. Assumes nothing.
+-- What an instruction may do: fill an empty cell of its own kind, wait on an empty cell, empty a full M-cell, be refused by a number 1 to 9, or leave the cells alone. Assumes nothing.
 use Prim.Native.Nat.{ℕ, ◌+◌}
 use native.Mathlib.Nat.{add-zero}
+use mathlib.Core.Bool.{true}
 use mathlib.Core.Path.{◌≡◌, refl, sym, ap, ◌∙◌}
 use lib.ListN.{length}
 use lib.Dec.{leb, eqb}
@@ -21,7 +22,7 @@ use Rattle.rules.specs.Tests.{value_in, location_of, integer_of, truth_of, size_
 use Rattle.rules.specs.Decide.{with_first, if_full, if_empty, gives, fetches, stores, makes, allocates, decide}
 use Rattle.rules.specs.Claim.{Claim, look, view, room}
 use Rattle.rules.specs.Turn.{decided, effect_at}
-use Rattle.rules.proofs.Numbered.{Finds, holds, lacks, neither, finds}
+use Rattle.rules.proofs.Numbered.{nine, numbered, Finds, holds, lacks, neither, finds}
 
 module _ (c : Claim) where
   pub data Lawful : Effect → Type 0 where
@@ -32,23 +33,23 @@ module _ (c : Claim) where
     empties : {l : ℕ} {v : Value} {t : Thread} → look c l ≡ Slot.Full Mcell v → Lawful (Empties t l)
     makes-some : {k : Kind} {n : ℕ} {t : Thread} → Lawful (Makes t k n)
     spawns : {new t : Thread} → Lawful (Spawns t new)
-    refuses : {r : Refusal} → Lawful (Refuses r)
+    refuses : {n : ℕ} → nine n ≡ true → Lawful (Refuses n)
 
   bind : {A : Type 0} (t : Result A Refusal) {f : A → Effect} → ((a : A) → Lawful (f a)) → Lawful (t >>= f)
   bind (Ok a) k = k a
-  bind (Err r) k = refuses
+  bind (Err r) k = refuses (numbered r)
 
   full-lawful : {k : Kind} {s : Slot} {h : Result (Option Value) Refusal} {f : Value → Effect} {e : Effect} → Finds k s h → ((v : Value) → s ≡ Slot.Full k v → Lawful (f v)) → (s ≡ Slot.Empty k → Lawful e) → Lawful (if_full f e h)
   unfolding if_full
   full-lawful (holds {v = v}) g w = g v refl
   full-lawful lacks g w = w refl
-  full-lawful neither g w = refuses
+  full-lawful (neither e) g w = refuses e
 
   empty-lawful : {k : Kind} {s : Slot} {h : Result (Option Value) Refusal} {e : Effect} → Finds k s h → (s ≡ Slot.Empty k → Lawful e) → Lawful (if_empty e h)
   unfolding if_empty
-  empty-lawful holds g = refuses
+  empty-lawful holds g = refuses refl
   empty-lawful lacks g = g refl
-  empty-lawful neither g = refuses
+  empty-lawful (neither e) g = refuses e
 
   module _ (after : ℕ) (th : Thread) where
     abbrev slot : ℕ → Result Value Refusal
@@ -107,9 +108,9 @@ module _ (c : Claim) where
   room-lawful (waits e) = waits e
   room-lawful (fills e) = fills e
   room-lawful (empties e) = empties e
-  room-lawful (makes-some {n = n}) = either_way Lawful (leb (length c.cells + n) c.seat.cells) (λ _. makes-some) (λ _. refuses)
-  room-lawful spawns = either_way Lawful (eqb (length c.row) c.seat.threads) (λ _. refuses) (λ _. spawns)
-  room-lawful refuses = refuses
+  room-lawful (makes-some {n = n}) = either_way Lawful (leb (length c.cells + n) c.seat.cells) (λ _. makes-some) (λ _. refuses refl)
+  room-lawful spawns = either_way Lawful (eqb (length c.row) c.seat.threads) (λ _. refuses refl) (λ _. spawns)
+  room-lawful (refuses e) = refuses e
 
   decided-lawful : (f : Option (Instruction × ℕ)) (th : Thread) → Lawful (decided f (view c) th)
   unfolding decided

@@ -10,3 +10,4 @@ pub mod Looks
 pub mod Figures
 pub mod Witnesses
 pub mod Judgements
+pub mod Tells

@@ -33,16 +33,16 @@ numbered R.ZeroDivisor = refl
 pub data Finds (k : Kind) : Slot → Result (Option Value) Refusal → Type 0 where
   holds : {v : Value} → Finds k (Slot.Full k v) (Ok (Some v))
   lacks : Finds k (Slot.Empty k) (Ok None)
-  neither : {s : Slot} {r : Refusal} → Finds k s (Err r)
+  neither : {s : Slot} {r : Refusal} → nine (refusal_number r) ≡ true → Finds k s (Err r)
 
 pub finds : (k : Kind) (s : Slot) → Finds k s (cell_in k s)
 unfolding cell_in of_kind
-finds k Slot.Missing = neither
+finds k Slot.Missing = neither refl
 finds Icell (Slot.Empty Icell) = lacks
-finds Icell (Slot.Empty Mcell) = neither
-finds Mcell (Slot.Empty Icell) = neither
+finds Icell (Slot.Empty Mcell) = neither refl
+finds Mcell (Slot.Empty Icell) = neither refl
 finds Mcell (Slot.Empty Mcell) = lacks
 finds Icell (Slot.Full Icell v) = holds
-finds Icell (Slot.Full Mcell v) = neither
-finds Mcell (Slot.Full Icell v) = neither
+finds Icell (Slot.Full Mcell v) = neither refl
+finds Mcell (Slot.Full Icell v) = neither refl
 finds Mcell (Slot.Full Mcell v) = holds

@@ -13,8 +13,6 @@ use Rattle.rules.specs.declared.Status.TheVariants.{Refused}
 use Rattle.rules.specs.Claim.{Claim, perform, seek, status_of}
 use Rattle.rules.specs.Turn.{Turned, turn, ran, answer_of}
 use Rattle.rules.proofs.Lawful.{Lawful, goes, ends, waits, fills, empties, makes-some, spawns, refuses, effect-lawful}
-use Rattle.value.specs.Refusals.{refusal_number}
-use Rattle.rules.proofs.Numbered.{numbered}
 use Rattle.rules.proofs.Outcomes as Outcomes
 use Rattle.rules.proofs.Outcomes.{Turns, idles, runs}
 
@@ -38,9 +36,7 @@ module _ (c : Claim) where
   performed i h (empties e) q = clash (cc)
   performed i h makes-some q = clash (cc)
   performed i h spawns q = clash (cc)
-  performed i h (refuses {r = r}) q =
-      let n = refusal_number r in
-      let e = numbered r in
+  performed i h (refuses {n = n} e) q =
       let l : 1 ≤ n = leb-true 1 n (first (leb 1 n) (leb n 9) e) in
       let z : n ≡ 0 → ⊥ = λ z. omega arith in
       record { number = n; least = l; most = leb-true n 9 (second (leb 1 n) (leb n 9) e); only = refl; status = rw (h, ne_eqb n 0 z) }

@@ -126,8 +126,8 @@ room c Ends = Ends
 room c (Waits t l) = Waits t l
 room c (Fills t k l v) = Fills t k l v
 room c (Empties t l) = Empties t l
-room c (Makes t k n) = if leb (length c.cells + n) c.seat.cells then Makes t k n else Refuses NoCellsLeft
-room c (Spawns t new) = if eqb (length c.row) c.seat.threads then Refuses NoThreadsLeft else Spawns t new
+room c (Makes t k n) = if leb (length c.cells + n) c.seat.cells then Makes t k n else Refuses (refusal_number NoCellsLeft)
+room c (Spawns t new) = if eqb (length c.row) c.seat.threads then Refuses (refusal_number NoThreadsLeft) else Spawns t new
 room c (Refuses n) = Refuses n
 
 -- the claim with other cells and another row, one step on
@@ -153,13 +153,13 @@ perform (Empties t l) i c = stepped c (put c l (empty Mcell)) (set c.row i (read
 perform (Makes t k n) i c = stepped c (c.cells ++ replicate n (empty k)) (set c.row i (readied t))
 perform (Spawns t new) i c = stepped c c.cells (set c.row i (readied t) ++ readied new ∷ [])
 -- "A refused instruction sets status, refusal and position and adds its step, nothing else; its thread stays where it was."
-perform (Refuses r) i c =
+perform (Refuses n) i c =
     record {
       seat = c.seat;
       image = c.image;
       cells = c.cells;
       row = c.row;
-      refusal = refusal_number r;
+      refusal = n;
       halted = i;
       steps = suc c.steps;
     }

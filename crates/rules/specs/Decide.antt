@@ -5,6 +5,7 @@ use Rattle.value.specs.declared.Value.{Value}
 use Rattle.value.specs.declared.Value.TheVariants.{Integer, Float, Boolean, Nil, Location}
 use Rattle.value.specs.declared.refusals.Refusal.{Refusal}
 use Rattle.value.specs.declared.refusals.Refusal.TheVariants.{WrongKind, CellFull}
+use Rattle.value.specs.Refusals.{refusal_number}
 use Rattle.numbers.specs.declared.Operation.{Operation}
 use Rattle.numbers.specs.Operations.{takes_first, operated}
 use Rattle.kinds.specs.declared.Instruction.{Instruction}
@@ -30,19 +31,19 @@ thread p f a = record { position = p; frame = f; acc = a }
 -- an effect, or the refusal of a test that failed
 abbrev pub told : Result Effect Refusal → Effect
 told (Ok e) = e
-told (Err r) = Refuses r
+told (Err r) = Refuses (refusal_number r)
 
 -- a cell was looked at: what it holds is handed on; "Empty: the thread waits"
 unfoldable pub if_full : (Value → Effect) → Effect → Result (Option Value) Refusal → Effect
 if_full f e (Ok (Some v)) = f v
 if_full f e (Ok None) = e
-if_full f e (Err n) = Refuses n
+if_full f e (Err r) = Refuses (refusal_number r)
 
 -- "need an empty cell. They fill it"; "store to a full cell"
 unfoldable pub if_empty : Effect → Result (Option Value) Refusal → Effect
-if_empty e (Ok (Some v)) = Refuses CellFull
+if_empty e (Ok (Some v)) = Refuses (refusal_number CellFull)
 if_empty e (Ok None) = e
-if_empty e (Err n) = Refuses n
+if_empty e (Err r) = Refuses (refusal_number r)
 
 -- "slot s any number, slot t the kind that s has": slot s is judged before slot t is read
 unfoldable pub with_second : Operation → Value → Result Value Refusal → Result Value Refusal

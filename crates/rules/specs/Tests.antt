@@ -4,6 +4,7 @@ use Rattle.std.specs.Prelude.{if◌then◌else◌}
 use Rattle.value.specs.declared.Value.{Value}
 use Rattle.value.specs.declared.refusals.Refusal.{Refusal}
 use Rattle.value.specs.declared.refusals.Refusal.TheVariants.{NoSuchCell, WrongCell, SlotEmpty, BadSize}
+use Rattle.value.specs.Refusals.{refusal_number}
 use Rattle.value.specs.Wanted.{as_integer, as_boolean, as_location}
 use Rattle.rules.specs.declared.Kind.{Kind}
 use Rattle.rules.specs.declared.Kind.TheVariants.{Icell, Mcell}
@@ -54,4 +55,4 @@ cell_in k (Full j v) = of_kind k j (Ok (Some v))
 infixl 1 ◌>>=◌
 abbrev pub ◌>>=◌ : {A : Type 0} → Result A Refusal → (A → Effect) → Effect
 Ok a >>= f = f a
-Err r >>= f = Refuses r
+Err r >>= f = Refuses (refusal_number r)

@@ -7,7 +7,6 @@ ghost use Rattle.rules.specs.Refused.{call_number, place_of, turned_down};
 
 use image::reader::Fault;
 use value::Value;
-use value::refusals::Refusal;
 
 #[derive(Clone, Copy, Debug, PartialEq, Eq)]
 pub enum Kind {
@@ -31,7 +30,7 @@ pub struct Thread {
     pub acc: Value,
 }
 
-// What an instruction does. The first thread is the one that ran, as it goes on or waits; it lies at one place in every case, so
+// What an instruction does; a refusal goes by its number. The first thread is the one that ran, as it goes on or waits; it lies at one place in every case, so
 // that it is read back as it was written.
 #[derive(Clone, Copy, Debug, PartialEq)]
 pub enum Effect {
@@ -42,7 +41,7 @@ pub enum Effect {
     Empties(Thread, usize),
     Makes(Thread, Kind, u16),
     Spawns(Thread, Thread),
-    Refuses(Refusal),
+    Refuses(u8),
 }
 
 // What an entry of a schedule answers.

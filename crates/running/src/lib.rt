@@ -3,7 +3,7 @@
 
 ghost use Rattle.std.specs.Prelude.{◌≡◌, ◌+◌, ◌≤◌, ◌<◌, length};
 ghost use Rattle.rules.specs.Calls.{picks};
-ghost use Rattle.rules.specs.Refused.{answered};
+ghost use Rattle.rules.specs.Refused.{answered, answered_at};
 ghost use Rattle.rules.specs.Turn.{answer_number};
 ghost use Rattle.state.specs.State.{state, Stands, machine_of};
 ghost use Rattle.calls.specs.Calls as Calls;
@@ -94,7 +94,8 @@ pub fn run(
     schedule: &[u8],
     answers: &mut [u8],
 ) -> Result<(), CallRefusal>
-    ensures { Calls.run_call (state book.old tags.old words.old heads.old accs.old images.now) schedule.now answers.old ≡ Calls.ran (answered result) (state book.new tags.new words.new heads.new accs.new images.now) answers.new }
+    ensures outcome { Calls.run_call (state book.old tags.old words.old heads.old accs.old images.now) schedule.now answers.old ≡ Calls.ran (answered result) (state book.new tags.new words.new heads.new accs.new images.now) answers.new }
+    ensures placeless { answered_at result ≡ 0 }
 {
     let lent = Lent {
         book: &book[..],

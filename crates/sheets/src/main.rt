@@ -6,20 +6,15 @@ use std::io;
 
 fn main(rt: HostRuntime) -> io::Result<()> {
     let mut out = rt.stdout();
-    let sheets = [
-        ("W1", worked::w1(12)),
-        ("W2", worked::w2()),
-        ("W3", worked::w3()),
-        ("W4", worked::w4()),
-        ("W5", worked::w5()),
-        ("W6", worked::w6()),
-        ("W7", worked::w7()),
-        ("W8", worked::w8()),
-        ("W9", worked::w9()),
-        ("W10", worked::w10()),
-    ];
-    for (name, agrees) in sheets {
-        line(&mut out, name.as_bytes(), agrees)?;
-    }
+    line(&mut out, b"W1", worked::w1(12))?;
+    line(&mut out, b"W2", worked::w2())?;
+    line(&mut out, b"W3", worked::w3())?;
+    line(&mut out, b"W4", worked::w4())?;
+    line(&mut out, b"W5", worked::w5())?;
+    line(&mut out, b"W6", worked::w6())?;
+    line(&mut out, b"W7", worked::w7())?;
+    line(&mut out, b"W8", worked::w8())?;
+    line(&mut out, b"W9", worked::w9())?;
+    line(&mut out, b"W10", worked::w10())?;
     Ok(())
 }

@@ -1,7 +1,7 @@
 // The tests of a slot and of the cell pointed to, in the paper's order.
 #![tactic(auto)]
 
-ghost use Rattle.std.specs.Prelude.{◌≡◌, ◌+◌, Ok};
+ghost use Rattle.std.specs.Prelude.{◌≡◌, ◌+◌};
 ghost use Rattle.cells.specs.Lent.{look_in};
 ghost use Rattle.rules.specs.Tests.{value_in, size_of, cell_in};
 ghost use Rattle.rules.specs.Decide.{with_first};
@@ -49,11 +49,12 @@ fn value_in(s: Slot) -> Result<Value, Refusal>
     }
 }
 
-// A size to allocate.
+// A size to allocate; what the slot is refused by is handed on.
 #[tactic(auto, unfolding(rules::specs::Tests::size_of))]
-pub fn size_of(z: i64) -> Result<u16, Refusal>
-    ensures { result ≡ size_of (Ok z) }
+pub fn size_of(size: Result<i64, Refusal>) -> Result<u16, Refusal>
+    ensures { result ≡ size_of size }
 {
+    let z = size?;
     if z < 1 {
         return Err(Refusal::BadSize);
     }

@@ -13,6 +13,7 @@ use Rattle.value.specs.declared.Value.{Value}
 use Rattle.value.specs.declared.Value.TheVariants.{Nil, Location}
 use Rattle.value.specs.declared.refusals.Refusal.{Refusal}
 use Rattle.value.specs.declared.refusals.Refusal.TheVariants.{NoCellsLeft, NoThreadsLeft}
+use Rattle.value.specs.Refusals.{refusal_number}
 use Rattle.value.specs.Range.{well_formed}
 use Rattle.numbers.specs.Integers.{moved}
 use Rattle.numbers.proofs.WellFormed.{moved-well-formed}
@@ -69,7 +70,7 @@ module _ (c : Claim) (g : Layout) where
   unfolding if_full room
   if-full (holds {v = v}) p k w = k v p
   if-full lacks p k w = w
-  if-full neither p k w = does tt
+  if-full (neither e) p k w = does tt
 
   if-empty : {e : Effect} (h : Result (Option Value) Refusal) → Does e → Does (if_empty e h)
   unfolding if_empty room
@@ -115,7 +116,7 @@ module _ (c : Claim) (g : Layout) where
         made : (kind : Kind) (n : ℕ) → Does (makes after (view c) th kind n)
         unfolding makes room well_formed
         made kind n =
-            does (either_way Keeps (leb (length c.cells + n) c.seat.cells) {a = Makes (thread after th.frame (Location (view c).fresh)) kind n} {b = Refuses NoCellsLeft}
+            does (either_way Keeps (leb (length c.cells + n) c.seat.cells) {a = Makes (thread after th.frame (Location (view c).fresh)) kind n} {b = Refuses (refusal_number NoCellsLeft)}
             (λ p. (leb-true _ _ p, next (le-leb (c.seat.start + length c.cells) 65535 (omega (arith, s.used, roomy.region))))) (λ _. tt))
 
         allocated : (kind : Kind) (s : ℕ) → Does (allocates after (view c) th kind s)
@@ -125,7 +126,7 @@ module _ (c : Claim) (g : Layout) where
         spawned : (new : Thread) → On new → Does (Spawns (thread after th.frame th.acc) new)
         unfolding room
         spawned new o =
-            does (either_way Keeps (eqb (length c.row) c.seat.threads) {a = Refuses NoThreadsLeft} {b = Spawns (thread after th.frame th.acc) new} (λ _. tt)
+            does (either_way Keeps (eqb (length c.row) c.seat.threads) {a = Refuses (refusal_number NoThreadsLeft)} {b = Spawns (thread after th.frame th.acc) new} (λ _. tt)
             (λ p. let d = eqb-false (length c.row) c.seat.threads p in (omega (arith, s.live), (o, next runs.acc))))
 
       abbrev Aims : Instruction → Type 0

@@ -12,7 +12,6 @@ use Rattle.laws.proofs.Absurd.{clash}
 use Rattle.laws.proofs.Choice.{both, parted}
 use Rattle.laws.proofs.Every.{All, all_set, all_append, all_snoc, all_replicate, all-also}
 use Rattle.value.specs.declared.Value.{Value}
-use Rattle.value.specs.Refusals.{refusal_number}
 use Rattle.image.specs.declared.reader.Layout.{Layout}
 use Rattle.rules.specs.declared.Kind.TheVariants.{Mcell}
 use Rattle.rules.specs.declared.Slot.TheVariants.{Full}
@@ -21,7 +20,7 @@ use Rattle.rules.specs.declared.Effect.{Effect}
 use Rattle.rules.specs.declared.Effect.TheVariants.{Refuses}
 use Rattle.rules.specs.Claim.{Claim, Cell, empty, full, Place, ready, on, Live, put, is_on, waits_on, without, wake, readied, waiting, stepped, perform}
 use Rattle.rules.specs.Sound.{cell_sound, is_empty, place_sound, refusal_sound}
-use Rattle.rules.proofs.Numbered.{numbered}
+use Rattle.rules.proofs.Numbered.{nine}
 use Rattle.rules.proofs.Lawful.{Lawful, goes, ends, waits, fills, empties, makes-some, spawns, refuses}
 use Rattle.soundness.proofs.Cells.{CellsSound, EmptyIn, length-put, put-sound, still-empty, empty-beside, empty-more}
 use Rattle.soundness.proofs.Rows.{Picked, length-wake, all-wake, length_without, all_without}
@@ -111,7 +110,7 @@ module _ (c : Claim) (g : Layout) (s : Sound c g) (calm : eqb c.refusal 0 ≡ tr
       (ran-live t)
   performed (spawns {new = new} {t = t}) o =
       same (ran t ++ readied new ∷ []) (all_snoc (ran-stands o.1.1) (is-ready c o.1.0)) (rw (length-append, length-set) (omega (arith, o.0)))
-  performed (refuses {r = r}) o =
+  performed (refuses {n = n} h) o =
       record {
         bytes = s.bytes;
         slots = s.slots;
@@ -119,12 +118,12 @@ module _ (c : Claim) (g : Layout) (s : Sound c g) (calm : eqb c.refusal 0 ≡ tr
         cells = s.cells;
         row = all-also (λ t q. record { runs = q.runs; place = place_kept c _ (λ l e. still-empty c l e _ refl refl) t.place q.place }) s.row;
         live = s.live;
-        refusal = refused;
+        refusal = refused n h;
         steps = more;
       }
     where
-      refused : refusal_sound (perform (Refuses r) i c) ≡ true
-      refused =
+      refused : (n : ℕ) → nine n ≡ true → refusal_sound (perform (Refuses n) i c) ≡ true
+      refused n h =
           unfold refusal_sound perform in
-          parted (leb 1 (refusal_number r)) _ (numbered r) λ low high.
-          rw (ne_eqb (refusal_number r) 0 (λ z. omega (arith, leb-true 1 (refusal_number r) low))) (both high (both (lt-ltb i (length c.row) picked.within) picked.ready))
+          parted (leb 1 n) (leb n 9) h λ low high.
+          rw (ne_eqb n 0 (λ z. omega (arith, leb-true 1 n low))) (both high (both (lt-ltb i (length c.row) picked.within) picked.ready))

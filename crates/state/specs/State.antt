@@ -112,7 +112,7 @@ pub record Ahead (l : ℕ) (p : Parts) : Type 0 where
 -- ---- soundness
 
 unfoldable pub bare : Parts → Bool
-bare p = all is_zero p.book && parts_bare p
+bare p = all is_zero p.book && parts_bare p.tags p.words p.heads p.accs p.image
 
 -- "shares obey the limits": 2,048 cells in all, of which l are taken
 unfoldable pub fair_at : ℕ → Parts → Bool

@@ -1,21 +1,21 @@
 // Document 01's limits: the least length of each buffer, and the shares that a seat may have.
 ghost use Rattle.std.specs.Prelude.{◌≡◌};
 ghost use Rattle.rules.specs.Calls.{fair_share};
-ghost use Rattle.state.specs.State.{state_of, long};
-
-use crate::whole::Lent;
+ghost use Rattle.state.specs.State.{is_long};
 
 // Whether each buffer has its minimum length.
-#[tactic(auto, unfolding(crate::specs::State::is_long, crate::specs::State::long))]
-pub fn is_long(lent: Lent) -> bool
-    ensures { result ≡ long (state_of lent.entry) }
+#[tactic(auto, unfolding(crate::specs::State::is_long))]
+pub fn is_long(
+    book: usize,
+    tags: usize,
+    words: usize,
+    heads: usize,
+    accs: usize,
+    images: usize,
+) -> bool
+    ensures { result ≡ is_long book tags words heads accs images }
 {
-    72 <= lent.book.len()
-        && 2048 <= lent.tags.len()
-        && 2048 <= lent.words.len()
-        && 256 <= lent.heads.len()
-        && 256 <= lent.accs.len()
-        && 32768 <= lent.images.len()
+    72 <= book && 2048 <= tags && 2048 <= words && 256 <= heads && 256 <= accs && 32768 <= images
 }
 
 #[tactic(auto, unfolding(rules::specs::Calls::fair_share))]

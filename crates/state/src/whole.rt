@@ -1,7 +1,6 @@
 // Whether the lent state is sound: seat by seat, and zero behind the last.
 ghost use Rattle.std.specs.Prelude.{◌≡◌, ◌≤◌};
-ghost use Rattle.inspection.specs.Seats.{parts_of};
-ghost use Rattle.state.specs.State.{state_of, Enough, within, ahead, bare, fair_at, first_in, stand_from, state_sound, Ahead, Long};
+ghost use Rattle.state.specs.State.{state_of, Enough, long, within, ahead, bare, fair_at, first_in, stand_from, state_sound, Ahead, Long};
 
 use crate::limits;
 use inspection::sound::{self, Seat};
@@ -20,6 +19,21 @@ pub struct Lent<'a> {
 }
 
 impl<'a> Lent<'a> {
+    // Whether each buffer has its minimum length.
+    #[tactic(auto, unfolding(crate::specs::State::long))]
+    pub fn is_long(self) -> bool
+        ensures { result ≡ long (state_of self.entry) }
+    {
+        limits::is_long(
+            self.book.len(),
+            self.tags.len(),
+            self.words.len(),
+            self.heads.len(),
+            self.accs.len(),
+            self.images.len(),
+        )
+    }
+
     // What of the buffers is the machine's.
     fn within(self) -> Lent<'a>
         requires { Enough (state_of self) }
@@ -52,25 +66,12 @@ impl<'a> Lent<'a> {
         }
     }
 
-    // A seat's parts, each as long as its buffer.
-    fn as_seat(self) -> Seat<'a>
-        ensures { parts_of result ≡ state_of self.entry }
-    {
-        Seat {
-            book: self.book,
-            tags: self.tags,
-            words: self.words,
-            heads: self.heads,
-            accs: self.accs,
-            image: self.images,
-        }
-    }
-
     #[tactic(auto, unfolding(crate::specs::State::bare))]
     fn is_bare(self) -> bool
         ensures { result ≡ bare (state_of self.entry) }
     {
-        is_bare(self.book) && sound::parts_bare(self.as_seat())
+        is_bare(self.book)
+            && sound::parts_bare(self.tags, self.words, self.heads, self.accs, self.images)
     }
 
     // The first seat's share is fair, and there are cells left for it.
@@ -130,7 +131,7 @@ fn seats_stand(lent: Lent) -> bool
 pub fn is_sound(lent: Lent) -> bool
     ensures { result ≡ state_sound (state_of lent.entry) }
 {
-    if !limits::is_long(lent) {
+    if !lent.is_long() {
         return false;
     }
     get(lent.book, 0, 0) != 0 && seats_stand(lent.within())

@@ -1,29 +1,53 @@
--- The element at an index taken out of a list, and another put at the end. Assumes nothing.
-use Rattle.std.proofs.Common.{◌≡◌, ℕ, zero, suc, ◌+◌, ◌-◌, ◌≤◌, ◌<◌, List, [], ◌∷◌, ◌++◌, length, get_or, set, drop, take, refl, ap, ◌∙◌, arith}
-use Rattle.std.specs.List.{remove}
-use Rattle.std.proofs.lemmas.List.{set_at}
-use Rattle.std.proofs.lemmas.Slice.{put_mid-rotated}
-use borrow.Rule.Slice.PartMut.{put_mid, mid_of}
-use lib.ListN.{length-append}
-use Rattle.laws.proofs.Absurd.{below-zero}
+-- The loop that takes an element out of a list and puts another at the end. Assumes nothing.
+use Prim.Native.Nat.{ℕ, zero, suc, ◌+◌, ◌-◌, ◌≤◌, ◌<◌}
+use native.Mathlib.Nat.{le_of_suc-le-suc, not-suc-le-zero}
+use native.Mathlib.Numerals.{add-one}
+use native.Mathlib.Omega.{arith}
+use mathlib.Core.Path.{◌≡◌, refl, sym, ap, ◌∙◌}
+use mathlib.Core.List.{List, [], ◌∷◌}
+use lib.ListN.{length, get_or, set, length-set}
 use Rattle.threads.specs.Row.{shifted}
 
-shift-is : (i v : ℕ) (xs : List ℕ) → i < length xs → remove xs i ++ v ∷ [] ≡ shifted i v xs
+-- the element after k copied down to k leaves the same to do, from k + 1
+copy-down : (k v : ℕ) (xs : List ℕ) → suc k < length xs → shifted k v xs ≡ shifted (suc k) v (set xs k (get_or xs (suc k) 0))
 unfolding shifted
-shift-is i v [] l = below-zero i l
-shift-is zero v (x ∷ xs) l = refl
-shift-is (suc i) v (x ∷ xs) l = ap (λ (r : List ℕ). x ∷ r) (shift-is i v xs (omega arith))
+copy-down k v [] l = refl
+copy-down zero v (x ∷ []) l = absurd (not-suc-le-zero (le_of_suc-le-suc l))
+copy-down zero v (x ∷ y ∷ ys) l = refl
+copy-down (suc k) v (x ∷ xs) l = ap (λ (r : List ℕ). x ∷ r) (copy-down k v xs (le_of_suc-le-suc l))
 
--- the list from i on turned left by one, and then its last element replaced
-pub shift_turned : (i v : ℕ) (xs ys : List ℕ) → i < length xs → ys ≡ drop 1 (mid_of i (length xs - i) xs) ++ take 1 (mid_of i (length xs - i) xs)
-    → set (put_mid i (length xs - i) xs ys) (length (put_mid i (length xs - i) xs ys) - 1) v ≡ shifted i v xs
-shift_turned i v xs ys l e =
-    let k : length xs ≤ i + (length xs - i) = omega arith in
-    rw (put_mid-rotated i (length xs - i) xs ys 0 l k e) (set_at (remove xs i) (get_or xs i 0) [] v _ (omega (arith, length-append (remove xs i) (get_or xs i 0 ∷ []))) ∙ shift-is i v xs l)
+-- at the last index only the store is left
+store-last : (k v : ℕ) (xs : List ℕ) → k < length xs → length xs ≤ suc k → set xs k v ≡ shifted k v xs
+unfolding shifted
+store-last k v [] l m = refl
+store-last zero v (x ∷ []) l m = refl
+store-last zero v (x ∷ y ∷ ys) l m = absurd (not-suc-le-zero (le_of_suc-le-suc m))
+store-last (suc k) v (x ∷ xs) l m = ap (λ (r : List ℕ). x ∷ r) (store-last k v xs (le_of_suc-le-suc l) (le_of_suc-le-suc m))
+
+-- what is to be shifted from k on is what was to be shifted
+pub record Shifting (i v : ℕ) (s₀ s : List ℕ) (k : ℕ) : Type 0 where
+  pub long : length s ≡ length s₀
+  pub below : k < length s
+  pub same : shifted i v s₀ ≡ shifted k v s
+
+pub shift-start : {i v : ℕ} {s : List ℕ} → i < length s → Shifting i v s s i
+shift-start l = record { long = refl; below = l; same = refl }
+
+module _ {i v k : ℕ} {s₀ s : List ℕ} (h : Shifting i v s₀ s k) where
+  pub shift-on : k < length s - 1 → Shifting i v s₀ (set s k (get_or s (k + 1) 0)) (k + 1)
+  shift-on l =
+      record {
+        long = length-set s k (get_or s (k + 1) 0) ∙ h.long;
+        below = omega (arith, length-set s k (get_or s (k + 1) 0));
+        same = h.same ∙ rw (add-one k) (copy-down k v s (omega arith));
+      }
+
+  pub shift-end : length s - 1 ≤ k → set s k v ≡ shifted i v s₀
+  shift-end l = store-last k v s h.below (omega arith) ∙ sym h.same
 
 -- past the end nothing is shifted
 pub shift_none : (i v : ℕ) (xs : List ℕ) → length xs ≤ i → xs ≡ shifted i v xs
 unfolding shifted
 shift_none i v [] l = refl
-shift_none zero v (x ∷ xs) l = below-zero (length xs) (omega arith)
-shift_none (suc i) v (x ∷ xs) l = ap (λ (r : List ℕ). x ∷ r) (shift_none i v xs (omega arith))
+shift_none zero v (x ∷ xs) l = absurd (not-suc-le-zero l)
+shift_none (suc i) v (x ∷ xs) l = ap (λ (r : List ℕ). x ∷ r) (shift_none i v xs (le_of_suc-le-suc l))

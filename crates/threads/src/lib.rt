@@ -96,13 +96,16 @@ pub fn find_ready<T: Placed>(row: &[T], pick: usize) -> Result<usize, usize>
     Err(ready)
 }
 
-// Takes out the element at i, and puts v at the end; past the end nothing is done.
+// Takes out the element at i, and puts v at the end; past the end nothing is done. An element a turn: what the library has
+// for it wants a function of C that the archive does not otherwise need.
 fn shift(s: &mut [u64], i: usize, v: u64)
     ensures { s.new ≡ shifted i v s.old }
 {
     if i < s.len() {
-        s[i..].rotate_left(1);
         let last = s.len() - 1;
+        for k in i..last {
+            s[k] = s[k + 1];
+        }
         s[last] = v;
     }
 }

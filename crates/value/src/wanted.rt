@@ -12,10 +12,10 @@ impl TryFrom<Value> for i64 {
 
     #[tactic(auto, unfolding(crate::specs::Wanted::as_integer))]
     fn try_from(v: Value) -> Result<i64, Refusal> {
-        match v {
-            Value::Integer(z) => Ok(z),
-            _ => Err(Refusal::WrongKind),
-        }
+        let Value::Integer(z) = v else {
+            return Err(Refusal::WrongKind);
+        };
+        Ok(z)
     }
 }
 
@@ -26,10 +26,10 @@ impl TryFrom<Value> for f64 {
 
     #[tactic(auto, unfolding(crate::specs::Wanted::as_float))]
     fn try_from(v: Value) -> Result<f64, Refusal> {
-        match v {
-            Value::Float(x) => Ok(x),
-            _ => Err(Refusal::WrongKind),
-        }
+        let Value::Float(x) = v else {
+            return Err(Refusal::WrongKind);
+        };
+        Ok(x)
     }
 }
 
@@ -40,10 +40,10 @@ impl TryFrom<Value> for bool {
 
     #[tactic(auto, unfolding(crate::specs::Wanted::as_boolean))]
     fn try_from(v: Value) -> Result<bool, Refusal> {
-        match v {
-            Value::Boolean(b) => Ok(b),
-            _ => Err(Refusal::WrongKind),
-        }
+        let Value::Boolean(b) = v else {
+            return Err(Refusal::WrongKind);
+        };
+        Ok(b)
     }
 }
 
@@ -55,9 +55,9 @@ impl TryFrom<Value> for u16 {
 
     #[tactic(auto, unfolding(crate::specs::Wanted::as_location))]
     fn try_from(v: Value) -> Result<u16, Refusal> {
-        match v {
-            Value::Location(l) => Ok(l),
-            _ => Err(Refusal::WrongKind),
-        }
+        let Value::Location(l) = v else {
+            return Err(Refusal::WrongKind);
+        };
+        Ok(l)
     }
 }

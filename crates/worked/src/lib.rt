@@ -265,8 +265,10 @@ fn turned_down(image: &[u8], place: usize) -> bool {
         steps: 0,
         result: None,
     };
-    let turned = Err(CallRefusal::BadAt(place));
-    played(&[8, 4], b"", image, b"").is_ok_and(|s| s.loaded == turned && says(s.report, want))
+    let turned = Err((23, place));
+    played(&[8, 4], b"", image, b"").is_ok_and(|s| {
+        s.loaded.map_err(|r| (u8::from(r), r.place())) == turned && says(s.report, want)
+    })
 }
 
 // "Image 80 01 85 04: refused 23, place 3. Empty image: 23, place 0."

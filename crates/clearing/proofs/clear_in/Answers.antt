@@ -41,8 +41,8 @@ slice_bounds-clear_seat-end-5 c = let z = region_at c.requires (sym c.region_of.
 pub slice_bounds-clear_seat-end-6 : goal.slice_bounds-clear_seat-end-6
 slice_bounds-clear_seat-end-6 c = let z = region_at c.requires (sym c.region_of.ensures ∙ c.in-Some.is) in omega arith
 
-pub returns-in_default : goal.returns-in_default
-returns-in_default c = clears-nothing c.requires (region-nowhere c.requires (sym c.region_of.ensures ∙ c.in_default.is))
+pub returns-in_default-clause-outcome : goal.returns-in_default-clause-outcome
+returns-in_default-clause-outcome c = clears-nothing c.requires (region-nowhere c.requires (sym c.region_of.ensures ∙ c.in_default.is))
 
-pub returns : goal.returns
-returns c = clears-there c.requires (region_at c.requires (sym c.region_of.ensures ∙ c.in-Some.is)) c.clear_seat.ensures
+pub returns-clause-outcome : goal.returns-clause-outcome
+returns-clause-outcome c = clears-there c.requires (region_at c.requires (sym c.region_of.ensures ∙ c.in-Some.is)) c.clear_seat.ensures.outcome

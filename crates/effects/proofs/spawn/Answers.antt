@@ -7,7 +7,7 @@ use Rattle.effects.proofs.spawn.Goals as goal
 
 pub returns-then-share-live : goal.returns-then-share-live
 returns-then-share-live c = λ tags words start. let s = c.args in
-    no_threads _ start _ (parts s.book.now tags words s.heads.now s.accs.now) refl c.get-live.ensures c.get-share.ensures (le-ltb _ _ c.if-share-live.true) ∙ c.refuse.ensures _ _ _ _ _
+    no_threads _ start _ (parts s.book.now tags words s.heads.now s.accs.now) refl c.get-live.ensures c.get-share.ensures (le-ltb _ _ c.if-share-live.true) ∙ (rw c.from.ensures at (c.refuse.ensures tags words s.heads.now s.accs.now start))
 
 pub returns : goal.returns
 returns c = λ tags words start. let s = c.args in

@@ -5,11 +5,11 @@ use Rattle.state.proofs.Stands.{sound-stands}
 use Rattle.calls.proofs.Gates.{report-refused, report-goes}
 use Rattle.reporting.proofs.report.Goals as goal
 
-pub returns-then-not-is_sound : goal.returns-then-not-is_sound
-returns-then-not-is_sound c = report-refused _ _ (failed c.is_sound.ensures c.if-not-is_sound.true) refl
+pub returns-then-not-is_sound-clause-outcome : goal.returns-then-not-is_sound-clause-outcome
+returns-then-not-is_sound-clause-outcome c = report-refused _ _ (failed c.is_sound.ensures c.if-not-is_sound.true) refl
 
 pub report_in-requires : goal.report_in-requires
 report_in-requires c = sound-stands _ (passed c.is_sound.ensures c.if-not-is_sound.false)
 
-pub returns : goal.returns
-returns c = report-goes _ _ (passed c.is_sound.ensures c.if-not-is_sound.false) c.report_in.ensures
+pub returns-clause-outcome : goal.returns-clause-outcome
+returns-clause-outcome c = report-goes _ _ (passed c.is_sound.ensures c.if-not-is_sound.false) c.report_in.ensures.outcome

@@ -35,8 +35,8 @@ slice_bounds-report_seat-end-3 c = let z = region_at c.requires (sym c.region_of
 pub slice_bounds-report_seat-end-4 : goal.slice_bounds-report_seat-end-4
 slice_bounds-report_seat-end-4 c = let z = region_at c.requires (sym c.region_of.ensures ∙ c.in-Some.is) in omega arith
 
-pub returns-in_default : goal.returns-in_default
-returns-in_default c = shows_nothing c.requires (region-nowhere c.requires (sym c.region_of.ensures ∙ c.in_default.is)) refl
+pub returns-in_default-clause-outcome : goal.returns-in_default-clause-outcome
+returns-in_default-clause-outcome c = shows_nothing c.requires (region-nowhere c.requires (sym c.region_of.ensures ∙ c.in_default.is)) refl
 
-pub returns : goal.returns
-returns c = shows-there c.requires (region_at c.requires (sym c.region_of.ensures ∙ c.in-Some.is)) c.report_seat.ensures
+pub returns-clause-outcome : goal.returns-clause-outcome
+returns-clause-outcome c = shows-there c.requires (region_at c.requires (sym c.region_of.ensures ∙ c.in-Some.is)) c.report_seat.ensures
