@@ -101,8 +101,9 @@ fn put(at: Standing, s: u8, k: u8) -> Result<Effect, Refusal>
     )
 }
 
-// ISTORE and MSTORE.
+// ISTORE and MSTORE. In line in its two arms, and `fetch` in its three: one call out of line, and every arm's effect goes through memory.
 #[tactic(auto, unfolding(rules::specs::Decide::stores, rules::specs::Decide::if_empty, rules::specs::Tests::location_of))]
+#[inline(always)]
 fn store_at(at: Standing, kind: Kind, s: u8, t: u8) -> Result<Effect, Refusal>
     ensures { told result ≡ stores at.entry.after (seen at.entry) at.entry.thread kind s t }
 {
@@ -127,6 +128,7 @@ fn fetch_from(kind: Kind, l: usize, at: Standing, held: Option<Value>) -> Effect
 }
 
 #[tactic(auto, unfolding(rules::specs::Decide::fetches, rules::specs::Decide::if_full, rules::specs::Tests::location_of))]
+#[inline(always)]
 fn fetch(at: Standing, kind: Kind, s: u8, k: u8) -> Result<Effect, Refusal>
     ensures { told result ≡ fetches at.entry.after (seen at.entry) at.entry.thread kind s k }
 {
@@ -142,7 +144,7 @@ fn make(at: Standing, kind: Kind, n: u16) -> Effect
     Effect::Makes(moved_to(at.after, at.thread, Value::Location(l)), kind, n)
 }
 
-#[tactic(auto, unfolding(rules::specs::Decide::allocates, rules::specs::Decide::makes, rules::specs::Tests::integer_of, rules::specs::Tests::size_of))]
+#[tactic(auto, using(slots::proofs::Handed::sized_own), unfolding(rules::specs::Decide::allocates, rules::specs::Decide::makes, rules::specs::Tests::integer_of, rules::specs::Tests::size_of))]
 fn allocate(at: Standing, kind: Kind, s: u8) -> Result<Effect, Refusal>
     ensures { told result ≡ allocates at.entry.after (seen at.entry) at.entry.thread kind s }
 {
@@ -168,7 +170,7 @@ fn apply(at: Standing, a: u16, s: u8) -> Result<Effect, Refusal>
     Ok(spawn(at, a, u16::try_from(at.slot_value(s)?)?))
 }
 
-#[tactic(auto, unfolding(rules::specs::Decide::decide))]
+#[tactic(auto, using(slots::proofs::Handed::judged_own), unfolding(rules::specs::Decide::decide))]
 fn binary(at: Standing, op: Operation, s: u8, t: u8) -> Result<Effect, Refusal>
     ensures { told result ≡ decision at.entry (I.Binary op s t) }
 {

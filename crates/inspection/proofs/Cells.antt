@@ -43,37 +43,38 @@ bit-of t h = by (eqb (t / 8 % 2) 0) refl
     by true e = let z = eqb-true (t / 8 % 2) 0 e in omega arith
     by false e = let z = eqb-false (t / 8 % 2) 0 e in omega arith
 
-module _ (t w : ℕ) (l : w < 2 ^ 64) where
-  high : 16 ≤ t → false ≡ cell_stands t w
+module _ (t w : ℕ) where
+  pub cell-high : 16 ≤ t → false ≡ cell_stands t w
   unfolding cell_stands stands
-  high h = let s = tag_small (cell_read t w) in rw (ne_eqb (cell_tag (cell_read t w)) t (λ e. omega arith))
+  cell-high h = let s = tag_small (cell_read t w) in rw (ne_eqb (cell_tag (cell_read t w)) t (λ e. omega arith))
 
-  none : t < 16 → t % 8 ≡ 0 → eqb w 0 ≡ cell_stands t w
+  pub cell-empty : t < 16 → t % 8 ≡ 0 → eqb w 0 ≡ cell_stands t w
   unfolding cell_stands stands cell_tag cell_word cell_sound slot_as as_cell
-  none h e = rw (read_as t w, e, bit-of t h, eq-eqb (t / 8 * 8) t (omega arith)) (by (eqb w 0) refl)
+  cell-empty h e = rw (read_as t w, e, bit-of t h, eq-eqb (t / 8 * 8) t (omega arith)) (by (eqb w 0) refl)
     where
       by : (b : Bool) → eqb w 0 ≡ b → b ≡ (eqb 0 w && true)
       by true e = rw (eqb-true w 0 e)
       by false e = rw (ne_eqb 0 w (λ z. eqb-false w 0 e (sym z)))
 
-  some_in : t < 16 → (t % 8 ≡ 0 → ⊥) → is_some (decoded (t % 8) w) ≡ cell_stands t w
-  unfolding cell_stands stands slot_as
-  some_in h n = rw (read_as t w, ne_eqb (t % 8) 0 n) (by (decoded (t % 8) w) refl)
-    where
-      by : (d : Option Value) → decoded (t % 8) w ≡ d
-          → is_some d ≡ (eqb (cell_tag (as_cell (filled (kind_in t) d))) t && (eqb (cell_word (as_cell (filled (kind_in t) d))) w && cell_sound (as_cell (filled (kind_in t) d))))
-      by (Some v) e = unfold filled as_cell cell_tag cell_word cell_sound tag_for in
-          let s = encode-decode (t % 8) w v l e in
-          let b = bit-of t h in
-          let g = s.tag in
-          rw (eq-eqb (tag_of v + kind_bit (kind_in t)) t (omega arith), eq-eqb _ _ s.word, s.good)
-      by None e = unfold filled as_cell cell_tag kind_bit in rw (ne_eqb 0 t (λ z. n (omega arith)))
+  module _ (l : w < 2 ^ 64) where
+    some_in : t < 16 → (t % 8 ≡ 0 → ⊥) → is_some (decoded (t % 8) w) ≡ cell_stands t w
+    unfolding cell_stands stands slot_as
+    some_in h n = rw (read_as t w, ne_eqb (t % 8) 0 n) (by (decoded (t % 8) w) refl)
+      where
+        by : (d : Option Value) → decoded (t % 8) w ≡ d
+            → is_some d ≡ (eqb (cell_tag (as_cell (filled (kind_in t) d))) t && (eqb (cell_word (as_cell (filled (kind_in t) d))) w && cell_sound (as_cell (filled (kind_in t) d))))
+        by (Some v) e = unfold filled as_cell cell_tag cell_word cell_sound tag_for in
+            let s = encode-decode (t % 8) w v l e in
+            let b = bit-of t h in
+            let g = s.tag in
+            rw (eq-eqb (tag_of v + kind_bit (kind_in t)) t (omega arith), eq-eqb _ _ s.word, s.good)
+        by None e = unfold filled as_cell cell_tag kind_bit in rw (ne_eqb 0 t (λ z. n (omega arith)))
 
-  -- a cell stands exactly if no bit above its kind's is set, and its word is 0 or its value is well formed
-  pub cell_is : cell_stands t w ≡ (ltb t 16 && (if eqb (t % 8) 0 then eqb w 0 else is_some (decoded (t % 8) w)))
-  cell_is = by (ltb t 16) refl (eqb (t % 8) 0) refl
-    where
-      by : (a : Bool) → ltb t 16 ≡ a → (b : Bool) → eqb (t % 8) 0 ≡ b → cell_stands t w ≡ (a && (if b then eqb w 0 else is_some (decoded (t % 8) w)))
-      by true h true e = sym (none (ltb-true t 16 h) (eqb-true _ _ e))
-      by true h false e = sym (some_in (ltb-true t 16 h) (eqb-false _ _ e))
-      by false h b e = sym (high (ltb-false t 16 h))
+    -- a cell stands exactly if no bit above its kind's is set, and its word is 0 or its value is well formed
+    pub cell_is : cell_stands t w ≡ (ltb t 16 && (if eqb (t % 8) 0 then eqb w 0 else is_some (decoded (t % 8) w)))
+    cell_is = by (ltb t 16) refl (eqb (t % 8) 0) refl
+      where
+        by : (a : Bool) → ltb t 16 ≡ a → (b : Bool) → eqb (t % 8) 0 ≡ b → cell_stands t w ≡ (a && (if b then eqb w 0 else is_some (decoded (t % 8) w)))
+        by true h true e = sym (cell-empty (ltb-true t 16 h) (eqb-true _ _ e))
+        by true h false e = sym (some_in (ltb-true t 16 h) (eqb-false _ _ e))
+        by false h b e = sym (cell-high (ltb-false t 16 h))

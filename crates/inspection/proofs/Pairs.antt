@@ -18,6 +18,17 @@ use Rattle.inspection.specs.Tests.{each_pair, held_by, stands, held, cell_stands
 
 -- ---- the loop
 
+pub uneven : {A : Type 0} (p : A → ℕ → Bool) (ts : List A) (ws : List ℕ) → (length ws ≡ length ts → ⊥) → false ≡ each_pair p ts ws
+unfolding each_pair
+uneven p [] [] h = absurd (h refl)
+uneven p [] (w ∷ ws) h = refl
+uneven p (t ∷ ts) [] h = refl
+uneven p (t ∷ ts) (w ∷ ws) h = rw (← uneven p ts ws (λ e. h (ap suc e))) (by (p t w))
+  where
+    by : (b : Bool) → false ≡ (b && false)
+    by true = refl
+    by false = refl
+
 -- what is left to test, us and vs, is what was to be tested
 pub record Paired {A : Type 0} (p : A → ℕ → Bool) (ts : List A) (ws : List ℕ) (us : List A) (vs : List ℕ) : Type 0 where
   pub even : length us ≡ length vs
@@ -82,7 +93,7 @@ module _ {A : Type 0} (f h : A → ℕ) (g : ℕ → ℕ → A) (q : A → Bool)
   short-right (suc k) (t ∷ ts) (w ∷ ws) l = rw (short-right k ts ws (omega arith)) (off (eqb (f (g t w)) t) (eqb (h (g t w)) w))
 
   -- the first k pairs stand and the rest are zero exactly if the rows hold k elements that pass, and no more
-  held_is : (k : ℕ) (ts ws : List ℕ) → held_by is_zero (stands f h g q) k ts ws ≡ held f h g q k ts ws
+  pub held_is : (k : ℕ) (ts ws : List ℕ) → held_by is_zero (stands f h g q) k ts ws ≡ held f h g q k ts ws
   unfolding held_by
   held_is k ts ws = by (leb k (length ts)) refl (leb k (length ws)) refl
     where

@@ -1,7 +1,7 @@
--- A test of each number of a range, but of some, holds of any of them. Assumes nothing.
+-- A test of each number of a list, or of a range, but of some, holds of any of them. Assumes nothing.
 use Prim.Native.Nat.{ℕ, zero, suc, ◌+◌, ◌<◌, ◌≤◌}
 use native.Mathlib.Omega.{arith}
-use mathlib.Core.Path.{◌≡◌, refl, subst}
+use mathlib.Core.Path.{◌≡◌, refl, sym, subst}
 use mathlib.Core.Bool.{Bool, true, false, ◌&&◌, ◌||◌}
 use mathlib.Core.Logic.{◌⊎◌, inl, inr, ⊎_elim}
 use mathlib.Core.List.{List, [], ◌∷◌}
@@ -20,6 +20,20 @@ and_first false b t = t
 and_second : (a b : Bool) → T (a && b) → T b
 and_second true b t = t
 and_second false b t = absurd t
+
+-- the test holds at each number of a list
+abbrev pub each : (ℕ → Bool) → List ℕ → Bool
+each p [] = true
+each p (x ∷ xs) = p x && each p xs
+
+pub keyed : (p : ℕ → Bool) (xs : List ℕ) → T (each p xs) → (k : ℕ) → OneOf xs k → T (p k)
+keyed p [] t k h = absurd h
+keyed p (x ∷ []) t k e = subst (λ (n : ℕ). T (p n)) (sym e) (and_first (p x) true t)
+keyed p (x ∷ y ∷ ys) t k h =
+    ⊎_elim
+    (λ (e : k ≡ x). subst (λ (n : ℕ). T (p n)) (sym e) (and_first (p x) (each p (y ∷ ys)) t))
+    (λ (r : OneOf (y ∷ ys) k). keyed p (y ∷ ys) (and_second (p x) (each p (y ∷ ys)) t) k r)
+    h
 
 -- k is one of a list
 abbrev pub among : ℕ → List ℕ → Bool

@@ -8,6 +8,7 @@ use mathlib.Core.List.{List, [], ◌∷◌, ◌++◌}
 use lib.ListN.{length, get_or, set, take, drop, replicate, drop_of_length-le, length-set, length-replicate, replicate-append-replicate}
 use lib.Seq.{drop-cons, length-take-le}
 use lib.Dec.{leb, eqb}
+use borrow.Table.Elements.{same_len}
 use Rattle.laws.specs.Lists.{all}
 use Rattle.laws.proofs.Absurd.{clash, below-zero}
 use Rattle.image.specs.Records.{whole_at}
@@ -137,6 +138,16 @@ pub shares-end : {ns b₀ b : List ℕ} {seats k : ℕ} → Shared ns b₀ b sea
 unfolding shares_over
 shares-end {ns} {b₀} {b} {seats} {k} v h = let e = v.two in sym (v.same ∙ rw (no-share ns k (omega arith)))
 
+shares-long : (k : ℕ) (ss : List Share) (b : List ℕ) → length (shares_over k ss b) ≡ length b
+unfolding shares_over
+shares-long k [] b = refl
+shares-long k (s ∷ ss) b = shares-long (k + 1) ss (set (set b (k * 9) s.cells) (k * 9 + 1) s.threads) ∙ rw (length-set, length-set)
+
+-- the book is as long as it was
+pub book-long : (ss : List Share) {front exit : List ℕ} (b : List ℕ) → front ≡ wiped 0 (take 72 b) → exit ≡ shares_over 0 ss (front ++ drop 72 b) → length exit ≡ length b
+unfolding wiped
+book-long ss b f e = rw (e, f) (shares-long 0 ss (replicate (length (take 72 b)) 0 ++ drop 72 b) ∙ same_len 72 b (replicate (length (take 72 b)) 0) (length-replicate (length (take 72 b)) 0))
+
 -- ---- what is written is the opened machine, laid out
 
 -- a seat's row of nine numbers passed over
@@ -201,6 +212,9 @@ unfolding wiped
 wiped-front n l h = rw (length-take-le n l h)
 
 -- ---- the call
+
+pub halves : (ns : List ℕ) → length ns % 2 ≡ 0 → length ns ≡ length ns / 2 + length ns / 2
+halves ns e = omega arith
 
 pub pairs : (ns : List ℕ) → May ns ≡ true → (length ns ≡ length ns / 2 + length ns / 2) × (length ns / 2 ≤ 8)
 unfolding may_open

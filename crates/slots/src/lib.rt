@@ -3,9 +3,9 @@
 
 ghost use Rattle.std.specs.Prelude.{◌≡◌, ◌+◌};
 ghost use Rattle.cells.specs.Lent.{look_in};
-ghost use Rattle.rules.specs.Tests.{value_in, size_of, cell_in};
-ghost use Rattle.rules.specs.Decide.{with_first};
+ghost use Rattle.rules.specs.Tests.{value_in, cell_in};
 ghost use Rattle.slots.specs.Standing.{slot};
+ghost use Rattle.slots.specs.Handed.{Sized, Judged};
 
 use cells::Cells;
 use numbers::Operation;
@@ -50,18 +50,18 @@ fn value_in(s: Slot) -> Result<Value, Refusal>
 }
 
 // A size to allocate; what the slot is refused by is handed on.
-#[tactic(auto, unfolding(rules::specs::Tests::size_of))]
-pub fn size_of(size: Result<i64, Refusal>) -> Result<u16, Refusal>
-    ensures { result ≡ size_of size }
+#[tactic(auto, unfolding(crate::specs::Handed::Sized, crate::specs::Handed::Told, rules::specs::Tests::size_of))]
+pub fn size_of<E: From<Refusal>>(size: Result<i64, E>) -> Result<u16, E>
+    ensures { Sized E.from_gives size result }
 {
     let z = size?;
     if z < 1 {
-        return Err(Refusal::BadSize);
+        return Err(E::from(Refusal::BadSize));
     }
     if z <= 1024 {
         return Ok(z as u16);
     }
-    Err(Refusal::BadSize)
+    Err(E::from(Refusal::BadSize))
 }
 
 // What a cell of the kind wanted holds, if it is full.
@@ -77,18 +77,18 @@ pub fn cell_in(k: Kind, s: Slot) -> Result<Option<Value>, Refusal>
     }
 }
 
-// The first slot is judged whole before what the second holds counts.
-#[tactic(auto, unfolding(rules::specs::Decide::with_first, rules::specs::Decide::with_second))]
-pub fn with_first(
+// The first slot is judged whole before what the second holds counts; what either is refused by is handed on.
+#[tactic(auto, unfolding(crate::specs::Handed::Judged, crate::specs::Handed::Told, rules::specs::Decide::with_first, rules::specs::Decide::with_second))]
+pub fn with_first<E: From<Refusal> + Drop>(
     op: Operation,
-    s: Result<Value, Refusal>,
-    t: Result<Value, Refusal>,
-) -> Result<Value, Refusal>
-    ensures { result ≡ with_first op s t }
+    s: Result<Value, E>,
+    t: Result<Value, E>,
+) -> Result<Value, E>
+    ensures { Judged E.from_gives op s t result }
 {
     let a = s?;
     if !numbers::takes_first(op, a) {
-        return Err(Refusal::WrongKind);
+        return Err(E::from(Refusal::WrongKind));
     }
-    numbers::operate(op, a, t?)
+    Ok(numbers::operate(op, a, t?)?)
 }
