@@ -11,7 +11,7 @@ use Rattle.kinds.specs.Table.{instruction_kind}
 use Rattle.image.specs.Records.{step_at, stride_of, stride_at, flow_in, flow_at}
 use Rattle.image.proofs.Places.{stands-there}
 use Rattle.image.proofs.Steps.{by-step}
-use Rattle.std.specs.Prelude.{Some, Result, Ok}
+use Rattle.std.specs.Prelude.{Some, Result, Ok, Err}
 use Rattle.image.specs.declared.records.Stop.{Stop}
 
 -- an instruction at `at`, and the place m behind it
@@ -20,6 +20,10 @@ pub record Passes (l : List ℕ) (at m : ℕ) : Type 0 where
   pub step : step_at l at ≡ Ok (instruction, m)
 
 module _ (l : List ℕ) (at : ℕ) where
+  pub stride-stop : {r : Stop} → stride_at l at ≡ Err r → step_at l at ≡ Err r
+  unfolding stride_at stride_of
+  stride-stop e = by-step l at (λ s f. f ∙ cc (e, ap stride_of f)) (λ i n f. clash (cc (ap stride_of f)))
+
   pub stride-next : {m : ℕ} → stride_at l at ≡ Ok m → Passes l at m
   unfolding stride_at stride_of
   stride-next e =

@@ -3,7 +3,7 @@ use Prim.Native.Nat.{ℕ, zero, suc, ◌+◌, ◌%◌, ◌/◌, ◌^◌}
 use mathlib.Core.Path.{◌≡◌, refl, sym, subst}
 use mathlib.Core.Bool.{Bool, true, false, not, cond}
 use lib.Dec.{T, eqb}
-use lib.Ieee.{Float, nan, inf, fin, binary64, of_bits, of_fields, odd, eq, ne, is_nan, nan_bits}
+use lib.Ieee.{Float, nan, inf, fin, binary64, of_bits, of_fields, odd, lt, eq, ne, is_nan, nan_bits}
 use lib.Ieee.Scale.{finite}
 use lib.Ieee.Bits.{nan_bits_is}
 use Rattle.std.specs.Float.{float_is_finite}
@@ -15,6 +15,20 @@ unfolding float_is_finite
 finite_is nan = refl
 finite_is (inf s) = refl
 finite_is (fin s m e) = refl
+
+-- the two tests against the infinities
+pub above-least : (x : Float) → lt x (inf false) ≡ true → lt (inf true) x ≡ finite x
+unfolding lt
+above-least nan t = refl
+above-least (inf true) t = refl
+above-least (inf false) t = sym t
+above-least (fin s m e) t = refl
+
+pub not-below-most : (x : Float) → lt x (inf false) ≡ false → false ≡ finite x
+unfolding lt
+not-below-most nan t = refl
+not-below-most (inf s) t = refl
+not-below-most (fin s m e) t = sym t
 
 -- x == x unless x is a NaN
 pub equals_itself : (x : Float) → eq x x ≡ true → T (not (is_nan x))

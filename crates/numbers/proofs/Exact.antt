@@ -31,7 +31,7 @@ exactly_if (Some x) z h = rw (h.1, fits-range z h.0)
 
 -- a quotient by another number than 0
 module _ (a b : ℤ) (f : of_z w64 b ≡ 0 → ⊥) where
-  quotient_is : exactly (quot_z a b) ≡ quotient a b
+  pub quotient_is : exactly (quot_z a b) ≡ quotient a b
   unfolding quotient
   quotient_is = rw (ne_eqb (nat_abs b) 0 (λ e. f (ap (of_z w64) (none_is b e))))
 

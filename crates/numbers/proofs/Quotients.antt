@@ -6,6 +6,7 @@ use mathlib.Core.Path.{◌≡◌, refl, sym, ◌∙◌, ap, subst}
 use mathlib.Core.Bool.{true}
 use lib.IntN.{ℤ, pos, negsuc, neg_ℤ, ◌-ℤ◌, +ℤ_idl}
 use lib.Signed.{quot_z}
+use borrow.Author.Tests.{le-leb}
 use mir.Syntax.{w64}
 use mir.Val.{SFits}
 use Rattle.std.specs.Prelude.{Ok, Err}
@@ -13,6 +14,7 @@ use Rattle.value.specs.declared.refusals.Refusal.TheVariants.{OutOfRange, ZeroDi
 use Rattle.value.specs.Range.{least, in_range}
 use Rattle.value.proofs.Range.{fits-range}
 use Rattle.numbers.specs.Integers.{exactly, quotient}
+use Rattle.numbers.proofs.Products.{negative-range}
 
 pub by_zero : (x y : ℤ) → y ≡ pos 0 → Err ZeroDivisor ≡ quotient x y
 unfolding quotient
@@ -45,8 +47,7 @@ module _ (x : ℤ) (h : SFits w64 x) (f : x ≡ least → ⊥) where
 
 -- by any other number
 negative-in : (m : ℕ) → m ≤ 2 ^ 63 → in_range (neg_ℤ (pos m)) ≡ true
-negative-in zero h = fits-range (pos zero) (record { sfits = omega arith })
-negative-in (suc m) h = fits-range (negsuc m) (record { sfits = omega arith })
+negative-in m h = negative-range m ∙ le-leb m (2 ^ 63) h
 
 pub quotient-in : (x y : ℤ) → SFits w64 x → (y ≡ negsuc 0 → ⊥) → in_range (quot_z x y) ≡ true
 quotient-in (pos a) (pos b) h f = fits-range (pos (a / b)) (record { sfits = omega (arith, h.sfits, div-le_self a b) })
